@@ -1,0 +1,5 @@
+pub mod Faults
+pub mod Grid
+pub mod Shapes
+pub mod Words
+pub mod Kind
