@@ -29,3 +29,8 @@ answer f why (Err e) = refused (why e)
 abbrev pub row : Refusal → List ℕ
 row (numbered n values) = n ∷ values
 row no-memory = []
+
+-- What a call leaves of a thing that it may change: the new one, or after a refusal the old.
+abbrev pub left-by : {A X : Type 0} → Answer A → X → X → X
+left-by (given a) new old = new
+left-by (refused c) new old = old

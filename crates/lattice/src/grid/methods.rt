@@ -1,0 +1,93 @@
+// Making, reading and changing the cells of a grid; the answers that every kind on a grid gives alike.
+ghost use mathlib.Core.Path.{_≡_};
+ghost use Prim.Native.Nat.{ℕ};
+ghost use lib.ListN.{getD, length, replicate, set, take};
+ghost use lib.Dec.{leb};
+ghost use mathlib.Core.Bool.{cond};
+ghost use Rattle.lattice.specs.Calls.{cell-answer, Equal-answers};
+ghost use Rattle.lattice.specs.Faults.{state-refusal};
+ghost use Rattle.lattice.specs.Grid.{agree, cell-count};
+ghost use Rattle.lattice.specs.Grids.{grid-cells, grid-extent};
+ghost use Rattle.lattice.specs.Shapes.{extent-of};
+ghost use Rattle.refusal.specs.Refusals.{answer};
+ghost use Rattle.std.specs.Vec.{made};
+use crate::fault::StateFault;
+use crate::shape::Shape;
+use super::Grid;
+use std::alloc::AllocError;
+use std::alloc::Global;
+
+impl Grid {
+    // A grid of this shape with 0 in every cell.
+    pub fn new(heap: Global, shape: Shape) -> Result<Grid, AllocError>
+        ensures { λ r. ⌜ made r (λ g. (grid-cells g ≡ replicate (cell-count (extent-of shape)) 0) × (grid-extent g ≡ extent-of shape)) ⌝ }
+    {
+        let cells = vec![in heap; 0u8; shape.cell_count()]?;
+        Ok(Grid { shape, cells })
+    }
+
+    pub fn cells(&self) -> &[u8]
+        ensures { λ r. ⌜ now r ≡ grid-cells (now (self .entry)) ⌝ }
+    {
+        self.cells.as_slice()
+    }
+
+    // Whether the grid has this shape.
+    pub fn has_shape(&self, shape: &Shape) -> bool
+        ensures { λ r. ⌜ r ≡ agree (extent-of (now (shape .entry))) (grid-extent (now (self .entry))) ⌝ }
+    {
+        shape.agrees(&self.shape)
+    }
+
+    // Writes one cell; past the last cell nothing changes.
+    pub fn put(&mut self, cell: usize, value: u8)
+        ensures writes { λ _. ⌜ grid-cells (now (self .exit)) ≡ set (grid-cells (now (self .entry))) cell value ⌝ }
+        ensures keeps { λ _. ⌜ grid-extent (now (self .exit)) ≡ grid-extent (now (self .entry)) ⌝ }
+    {
+        if cell < self.cells.len() {
+            self.cells[cell] = value;
+        }
+    }
+
+    // Writes the same value into every cell.
+    pub fn fill(&mut self, value: u8)
+        ensures writes { λ _. ⌜ grid-cells (now (self .exit)) ≡ replicate (cell-count (grid-extent (now (self .entry)))) value ⌝ }
+        ensures keeps { λ _. ⌜ grid-extent (now (self .exit)) ≡ grid-extent (now (self .entry)) ⌝ }
+    {
+        self.cells.as_mut_slice().fill(value);
+    }
+
+    // Writes a byte for each cell, from the first on; nothing changes where there are too few.
+    pub fn copy_from(&mut self, bytes: &[u8])
+        ensures writes { λ _. ⌜ grid-cells (now (self .exit)) ≡ cond (leb (cell-count (grid-extent (now (self .entry)))) (length (now (bytes .entry)))) (take (cell-count (grid-extent (now (self .entry)))) (now (bytes .entry))) (grid-cells (now (self .entry))) ⌝ }
+        ensures keeps { λ _. ⌜ grid-extent (now (self .exit)) ≡ grid-extent (now (self .entry)) ⌝ }
+    {
+        let count = self.cells.len();
+        if count <= bytes.len() {
+            self.cells.as_mut_slice().copy_from_slice(&bytes[0..count]);
+        }
+    }
+
+    // One cell of a state that is to have this shape.
+    pub fn cell_of(&self, shape: &Shape, index: u64) -> Result<u8, StateFault>
+        ensures { λ r. ⌜ answer (λ v. v) state-refusal r ≡ cell-answer (extent-of (now (shape .entry))) (grid-extent (now (self .entry))) (grid-cells (now (self .entry))) index ⌝ }
+    {
+        if !self.has_shape(shape) {
+            return Err(StateFault::Foreign);
+        }
+        if index >= self.cells.len() as u64 {
+            return Err(StateFault::NoCell);
+        }
+        Ok(self.cells[index as usize])
+    }
+
+    // Whether two states that are to have this shape hold the same cells.
+    pub fn same_of(&self, shape: &Shape, other: &Grid) -> Result<bool, StateFault>
+        ensures { λ r. ⌜ Equal-answers (extent-of (now (shape .entry))) (grid-extent (now (self .entry))) (grid-extent (now (other .entry))) (grid-cells (now (self .entry))) (grid-cells (now (other .entry))) (answer (λ t. t) state-refusal r) ⌝ }
+    {
+        if !self.has_shape(shape) || !other.has_shape(shape) {
+            return Err(StateFault::Foreign);
+        }
+        Ok(self.cells.as_slice() == other.cells.as_slice())
+    }
+}
