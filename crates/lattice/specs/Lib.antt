@@ -5,4 +5,5 @@ pub mod Grids
 pub mod Words
 pub mod Kind
 pub mod Lists
+pub mod Orders
 pub mod Calls

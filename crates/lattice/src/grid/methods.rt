@@ -32,6 +32,13 @@ impl Grid {
         self.cells.as_slice()
     }
 
+    // The value of a cell, 0 past the last one.
+    pub fn get(&self, cell: usize) -> u8
+        ensures { λ r. ⌜ r ≡ getD (grid-cells (now (self .entry))) cell 0 ⌝ }
+    {
+        if cell < self.cells.len() { self.cells[cell] } else { 0 }
+    }
+
     // Whether the grid has this shape.
     pub fn has_shape(&self, shape: &Shape) -> bool
         ensures { λ r. ⌜ r ≡ agree (extent-of (now (shape .entry))) (grid-extent (now (self .entry))) ⌝ }

@@ -1,0 +1,4 @@
+pub mod Table
+pub mod Spin
+pub mod Faults
+pub mod Spins
