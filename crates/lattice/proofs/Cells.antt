@@ -1,14 +1,12 @@
 -- Lists of cells whose values keep below a bound, and the order cell by cell.
-use mathlib.Core.List.{List, [], _∷_}
-use mathlib.Core.Logic.{⊎-elim}
-use mathlib.Core.Path.{_≡_}
-use Prim.Native.Nat.{ℕ, zero, suc, _≤_, _<_}
+use mathlib.Core.List.{List, [], _∷_, _++_}
+use mathlib.Core.Path.{_≡_, sym, ap, _∙_}
+use Prim.Native.Nat.{ℕ, zero, suc, _-_, _≤_, _<_}
 use native.Mathlib.Omega.{arith}
-use lib.ListN.{length, getD, set, replicate}
+use lib.ListN.{length, getD, set, replicate, take}
 use Rattle.std.specs.shelf.Lists.{All}
-use Rattle.std.proofs.shelf.Lists.{getD-past, ext-getD}
-use Rattle.std.proofs.shelf.Elements.{all-getD, all-from-getD}
-use Rattle.std.proofs.shelf.Tests.{cases-lt}
+use Rattle.std.proofs.shelf.Lists.{ext-getD, getD-take, length-append, length-replicate, length-take-le}
+use Rattle.std.proofs.shelf.Elements.{all-from-getD}
 use Rattle.lattice.specs.Orders.{cellwise}
 
 pub replicate-upto : (n v b i : ℕ) → v ≤ b → getD (replicate n v) i 0 ≤ b
@@ -22,6 +20,27 @@ set-upto (y ∷ x) zero v b each h zero = h
 set-upto (y ∷ x) zero v b each h (suc j) = each (suc j)
 set-upto (y ∷ x) (suc i) v b each h zero = each zero
 set-upto (y ∷ x) (suc i) v b each h (suc j) = set-upto x i v b (λ k. each (suc k)) h j
+
+pub append-upto : (x y : List ℕ) (b : ℕ) → ((k : ℕ) → getD x k 0 ≤ b) → ((k : ℕ) → getD y k 0 ≤ b) → (k : ℕ) → getD (x ++ y) k 0 ≤ b
+append-upto [] y b each more k = more k
+append-upto (a ∷ x) y b each more zero = each zero
+append-upto (a ∷ x) y b each more (suc k) = append-upto x y b (λ j. each (suc j)) more k
+
+pub take-upto : (x : List ℕ) (i b : ℕ) → ((j : ℕ) → j < i → getD x j 0 ≤ b) → (k : ℕ) → getD (take i x) k 0 ≤ b
+take-upto x zero b each k = omega arith
+take-upto [] (suc i) b each k = omega arith
+take-upto (a ∷ x) (suc i) b each zero = each zero (omega arith)
+take-upto (a ∷ x) (suc i) b each (suc k) = take-upto x i b (λ j h. each (suc j) (omega arith)) k
+
+-- the first cells of a list, and as many more as it has left
+pub filled-up : (x : List ℕ) (i : ℕ) → i ≤ length x → length (take i x ++ replicate (length x - i) 0) ≡ length x
+filled-up x i h = rw (length-append (take i x) (replicate (length x - i) 0), length-take-le i x h, length-replicate {A = ℕ} (length x - i) 0) (omega arith)
+
+-- a list that begins as another has its values there
+pub begins-same : (x y : List ℕ) (n : ℕ) → n ≤ length x → take (length (take n x)) y ≡ take n x → (i : ℕ) → i < n → getD y i 0 ≡ getD x i 0
+begins-same x y n long same i h =
+    let size = length-take-le n x long in
+    sym (getD-take n y i 0 h) ∙ ap (λ (l : List ℕ). getD l i 0) (rw size at same) ∙ getD-take n x i 0 h
 
 pub all-upto : (x : List ℕ) (b : ℕ) → ((k : ℕ) → getD x k 0 ≤ b) → All (λ v. v ≤ b) x
 all-upto x b each = all-from-getD (λ v. v ≤ b) x 0 (λ i h. each i)

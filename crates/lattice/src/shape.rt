@@ -10,5 +10,5 @@ pub struct Shape {
     columns: usize,
     cap: u8,
     ghost sided: { (1 ≤ rows) × (rows ≤ 32) × (1 ≤ columns) × (columns ≤ 32) },
-    ghost capped: { 1 ≤ «cap» },
+    ghost capped: { (1 ≤ «cap») × («cap» ≤ 255) },
 }

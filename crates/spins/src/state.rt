@@ -7,6 +7,6 @@ mod methods;
 
 #[derive(Drop)]
 pub struct SpinGrid {
-    grid: Grid,
+    pub(crate) grid: Grid,
     ghost spins: { (i : ℕ) → getD (grid-cells grid) i 0 ≤ 1 },
 }

@@ -42,7 +42,7 @@ impl Spins {
 
     // The index of the threshold that decides the site: 4, and one more for each neighbour that is up, one less for each
     // that is down.
-    fn threshold_index(&self, state: &SpinGrid, site: usize) -> usize
+    pub(super) fn threshold_index(&self, state: &SpinGrid, site: usize) -> usize
         ensures { λ r. ⌜ r ≡ threshold-index (spins-extent (now (self .entry))) (spin-cells (now (state .entry))) site ⌝ }
     {
         let mut index = 4;
