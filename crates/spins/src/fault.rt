@@ -57,8 +57,8 @@ pub impl Cause for SpinsFault as SpinsFaultCause {
 
     fn tell(&self, numbers: &mut Vec<u64>) -> Result<(), AllocError> {
         match self {
-            SpinsFault::Shape(fault) => fault.tell(numbers),
-            SpinsFault::Table(fault) => fault.tell(numbers),
+            SpinsFault::Shape(cause) => cause.tell(numbers),
+            SpinsFault::Table(cause) => cause.tell(numbers),
         }
     }
 }

@@ -2,8 +2,11 @@
 ghost use Rattle.spins.specs.Table.{Rises};
 mod methods;
 
+// A threshold for each index.
+pub type Nine = [u64; 9];
+
 #[derive(Clone, Copy)]
 pub struct Thresholds {
-    values: [u64; 9],
+    values: Nine,
     ghost rises: { Rises values 9 },
 }

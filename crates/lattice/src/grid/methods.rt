@@ -26,12 +26,6 @@ impl Grid {
         Ok(Grid { shape, cells })
     }
 
-    pub fn cells(&self) -> &[u8]
-        ensures { λ r. ⌜ now r ≡ grid-cells (now (self .entry)) ⌝ }
-    {
-        self.cells.as_slice()
-    }
-
     // The value of a cell, 0 past the last one.
     pub fn get(&self, cell: usize) -> u8
         ensures { λ r. ⌜ r ≡ getD (grid-cells (now (self .entry))) cell 0 ⌝ }

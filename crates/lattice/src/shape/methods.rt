@@ -28,16 +28,11 @@ impl Shape {
         })
     }
 
-    pub fn rows(&self) -> usize
-        ensures { λ r. ⌜ r ≡ extent-of (now (self .entry)) .rows ⌝ }
+    // Rows and columns.
+    pub fn sides(&self) -> (usize, usize)
+        ensures { λ r. ⌜ r ≡ (extent-of (now (self .entry)) .rows, extent-of (now (self .entry)) .columns) ⌝ }
     {
-        self.rows
-    }
-
-    pub fn columns(&self) -> usize
-        ensures { λ r. ⌜ r ≡ extent-of (now (self .entry)) .columns ⌝ }
-    {
-        self.columns
+        (self.rows, self.columns)
     }
 
     pub fn cap(&self) -> u8

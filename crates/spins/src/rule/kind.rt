@@ -41,7 +41,7 @@ pub impl Kind for Spins as SpinsKind {
     }
 
     fn sides(&self) -> (usize, usize) {
-        (self.shape.rows(), self.shape.columns())
+        self.shape.sides()
     }
 
     fn cap(&self) -> u8 {

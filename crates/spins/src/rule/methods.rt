@@ -13,6 +13,7 @@ use crate::fault::SpinsFault;
 use crate::fault::SpinsFaultFromShape;
 use crate::fault::SpinsFaultFromTable;
 use crate::state::SpinGrid;
+use crate::thresholds::Nine;
 use crate::thresholds::Thresholds;
 use lattice::fault::ShapeFault;
 use lattice::shape::DIRECTIONS;
@@ -32,10 +33,10 @@ impl Spins {
     }
 
     // The same from plain numbers: sides and cap are tested before the thresholds.
-    pub fn from_numbers(rows: u64, columns: u64, cap: u64, values: [u64; 9]) -> Result<Spins, SpinsFault>
+    pub fn from_numbers(rows: u64, columns: u64, cap: u64, values: Nine) -> Result<Spins, SpinsFault>
         ensures { λ r. ⌜ Rule-answers (shape-answer rows columns «cap» 1) values (answer rule-parts spins-refusal r) ⌝ }
     {
-        let shape = Shape::new(rows, columns, cap, Self::CAP)?;
+        let shape = Shape::new(rows, columns, cap, Spins::CAP)?;
         let thresholds = Thresholds::new(values)?;
         Ok(Spins { shape, thresholds })
     }

@@ -5,13 +5,14 @@ ghost use Rattle.refusal.specs.Refusals.{answer};
 ghost use Rattle.spins.specs.Faults.{Table-answers, table-refusal};
 ghost use Rattle.spins.specs.Spins.{table-of};
 use crate::fault::TableFault;
+use super::Nine;
 use super::Thresholds;
 
 const HIGHEST: u64 = 1 << 32;
 
 impl Thresholds {
     // The table of these thresholds, tested index by index.
-    pub fn new(values: [u64; 9]) -> Result<Thresholds, TableFault>
+    pub fn new(values: Nine) -> Result<Thresholds, TableFault>
         ensures { λ r. ⌜ Table-answers values (answer table-of table-refusal r) ⌝ }
     {
         for index in 0..9 {
