@@ -7,3 +7,4 @@ pub mod Kind
 pub mod Lists
 pub mod Orders
 pub mod Calls
+pub mod Counts

@@ -71,7 +71,7 @@ pub trait Kind {
     fn cap(&self) -> u8
         ensures { λ r. ⌜ r ≡ extent (now (self .entry)) .largest ⌝ };
 
-    fn cell_count(&self) -> usize
+    fn cell_count(&self) -> u32
         ensures { λ r. ⌜ r ≡ cell-count (extent (now (self .entry))) ⌝ };
 
     // Whether the state is the rule's: whether its sides and cap are.

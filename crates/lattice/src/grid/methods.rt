@@ -10,6 +10,8 @@ ghost use Rattle.lattice.specs.Grid.{agree, cell-count};
 ghost use Rattle.lattice.specs.Grids.{grid-cells, grid-extent};
 ghost use Rattle.lattice.specs.Shapes.{extent-of};
 ghost use Rattle.refusal.specs.Refusals.{answer};
+ghost use Rattle.std.specs.Of.Vec.{vec-items, vec-len};
+ghost use Rattle.std.specs.Orderings.{Decides};
 ghost use Rattle.std.specs.Vec.{made};
 use crate::fault::StateFault;
 use crate::shape::Shape;
@@ -17,12 +19,25 @@ use super::Grid;
 use std::alloc::AllocError;
 use std::alloc::Global;
 
+fn same_bytes(first: &[u8], second: &[u8]) -> bool
+    ensures { λ r. ⌜ Decides r (now (first .entry) ≡ now (second .entry)) ⌝ }
+{
+    first == second
+}
+
+fn fill_cells(cells: &mut Vec<u8>, value: u8)
+    ensures items { λ _. ⌜ vec-items (now (cells .exit)) ≡ replicate (vec-len (now (cells .entry))) value ⌝ }
+    ensures len { λ _. ⌜ vec-len (now (cells .exit)) ≡ vec-len (now (cells .entry)) ⌝ }
+{
+    cells.as_mut_slice().fill(value);
+}
+
 impl Grid {
     // A grid of this shape with 0 in every cell.
     pub fn new(heap: Global, shape: Shape) -> Result<Grid, AllocError>
         ensures { λ r. ⌜ made r (λ g. (grid-cells g ≡ replicate (cell-count (extent-of shape)) 0) × (grid-extent g ≡ extent-of shape)) ⌝ }
     {
-        let cells = vec![in heap; 0u8; shape.cell_count()]?;
+        let cells = vec![in heap; 0u8; shape.cell_count() as usize]?;
         Ok(Grid { shape, cells })
     }
 
@@ -55,7 +70,7 @@ impl Grid {
         ensures writes { λ _. ⌜ grid-cells (now (self .exit)) ≡ replicate (cell-count (grid-extent (now (self .entry)))) value ⌝ }
         ensures keeps { λ _. ⌜ grid-extent (now (self .exit)) ≡ grid-extent (now (self .entry)) ⌝ }
     {
-        self.cells.as_mut_slice().fill(value);
+        fill_cells(&mut self.cells, value);
     }
 
     // Writes a byte for each cell, from the first on; nothing changes where there are too few.
@@ -89,6 +104,6 @@ impl Grid {
         if !self.has_shape(shape) || !other.has_shape(shape) {
             return Err(StateFault::Foreign);
         }
-        Ok(self.cells.as_slice() == other.cells.as_slice())
+        Ok(same_bytes(self.cells.as_slice(), other.cells.as_slice()))
     }
 }

@@ -41,10 +41,10 @@ impl Shape {
         self.cap
     }
 
-    pub fn cell_count(&self) -> usize
+    pub fn cell_count(&self) -> u32
         ensures { λ r. ⌜ r ≡ cell-count (extent-of (now (self .entry))) ⌝ }
     {
-        self.rows * self.columns
+        (self.rows * self.columns) as u32
     }
 
     // Whether two shapes agree in sides and cap.

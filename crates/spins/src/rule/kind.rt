@@ -48,7 +48,7 @@ pub impl Kind for Spins as SpinsKind {
         self.shape.cap()
     }
 
-    fn cell_count(&self) -> usize {
+    fn cell_count(&self) -> u32 {
         self.shape.cell_count()
     }
 
@@ -83,7 +83,7 @@ pub impl Kind for Spins as SpinsKind {
         if !self.owns(state) {
             return Err(StateFault::Foreign);
         }
-        let (site, level) = split(word, self.shape.cell_count() as u32);
+        let (site, level) = split(word, self.shape.cell_count());
         let index = self.threshold_index(state, site as usize);
         state.turn(site as usize, u64::from(level) < self.thresholds.at(index));
         Ok(())
@@ -101,7 +101,7 @@ pub impl Kind for Spins as SpinsKind {
         if !self.owns(state) {
             return Err(StateFault::Foreign);
         }
-        let count = self.shape.cell_count();
+        let count = self.shape.cell_count() as usize;
         if bytes.len() < count {
             return Err(StateFault::FewCells);
         }

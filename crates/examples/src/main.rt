@@ -1,0 +1,14 @@
+// Worked examples: what the calls answer at and past their limits. The file stdout has the answers that are expected.
+mod proved;
+mod rules;
+mod say;
+mod states;
+mod words;
+
+use say::Failed;
+
+fn main(rt: LibcRuntime) -> Result<(), Failed> {
+    words::show(&rt)?;
+    rules::show(&rt)?;
+    states::show(&rt)
+}

@@ -1,0 +1,57 @@
+// Words: the split, recordings and the counter generator.
+use crate::proved::six_cells;
+use crate::say::Failed;
+use crate::say::FailedFromAlloc;
+use crate::say::FailedFromIo;
+use crate::say::say;
+use crate::say::say_refused;
+use sources::counter::Counter;
+use sources::counter::CounterSource;
+use sources::fault::NoWordCause;
+use sources::fault::RecordingFaultCause;
+use sources::recording::Recording;
+use sources::recording::RecordingSource;
+use sources::source::Source;
+
+pub fn show(rt: &LibcRuntime) -> Result<(), Failed> {
+    for (site, level) in six_cells() {
+        println!(rt, "site {site} level {level}")?;
+    }
+    recordings(rt)?;
+    generator(rt)
+}
+
+fn recordings(rt: &LibcRuntime) -> Result<(), Failed> {
+    say(rt, "recording of 8 bytes", Recording::new(b"12345678"))?;
+    say(rt, "recording of 7 bytes", Recording::new(b"1234567"))?;
+    say(rt, "recording of 0 bytes", Recording::new(b""))?;
+    let long = vec![in rt.alloc(); 0u8; 8_388_616]?;
+    say(rt, "recording of 8388608 bytes", Recording::new(&long[0..8_388_608]))?;
+    say(rt, "recording of 8388616 bytes", Recording::new(&long[0..8_388_616]))?;
+    let Ok(two) = Recording::new(b"\x00\x00\x00\x00\x00\x00\x01\x02\xff\x00\x00\x00\x00\x00\x00\x00") else {
+        return Err(Failed::Example);
+    };
+    for place in 0..4 {
+        word(rt, "a recording", &two, place)?;
+    }
+    Ok(())
+}
+
+fn generator(rt: &LibcRuntime) -> Result<(), Failed> {
+    let counter = Counter::new(0);
+    for place in 0..4 {
+        word(rt, "seed 0", &counter, place)?;
+    }
+    say(rt, "place 1099511627776 of seed 0", counter.word(1 << 40))?;
+    say(rt, "place 1099511627777 of seed 0", counter.word((1 << 40) + 1))
+}
+
+// The word at a place, in hex.
+fn word<S: Source>(rt: &LibcRuntime, name: &str, source: &S, place: u64) -> Result<(), Failed> {
+    let what = format!(rt.alloc(), "place {place} of {name}")?;
+    match source.word(place) {
+        Ok(word) => println!(rt, "{what}: {word:016x}")?,
+        Err(fault) => say_refused(rt, what.as_str(), &fault)?,
+    }
+    Ok(())
+}

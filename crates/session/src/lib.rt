@@ -1,0 +1,5 @@
+// Carries out a task: takes its directives in order, calls the libraries, and writes the answers to any output.
+pub mod input;
+pub mod print;
+pub mod stages;
+pub mod trouble;
