@@ -64,8 +64,8 @@ module _ (up down : ℕ → List ℕ → List ℕ) (threshold n : ℕ) (few : th
       sum-rows (2 ^ 32) (2 ^ 32) (λ w. same-as (two-way up down threshold n w x) y)
       ∙ sum-same (2 ^ 32) _ _
       (λ high h.
-        sum-same (2 ^ 32) _ _ (λ l k. ap (λ (z : List ℕ). same-as z y) (half-word high l k))
-        ∙ levels-between (2 ^ 32) threshold (up (site-of-half n high) x) (down (site-of-half n high) x) y few)
+      sum-same (2 ^ 32) _ _ (λ l k. ap (λ (z : List ℕ). same-as z y) (half-word high l k))
+      ∙ levels-between (2 ^ 32) threshold (up (site-of-half n high) x) (down (site-of-half n high) x) y few)
 
 -- Each way undoes the other where it changes anything.
 abbrev pub Undo : Meaning → (up down : ℕ → List ℕ → List ℕ) → ℕ → Type 0
@@ -79,10 +79,10 @@ same-counts a b c d there back =
     ⊎-elim
     (λ (t : sameBytes a b ≡ true). rw (t, right .1 (there (left .0 t))) refl)
     (λ (f : sameBytes a b ≡ false).
-      ⊎-elim
-      (λ (t : sameBytes c d ≡ true). absurd (both-ways (sameBytes a b) f (left .1 (back (right .0 t)))))
-      (λ (g : sameBytes c d ≡ false). rw (f, g) refl)
-      (cases-bool (sameBytes c d)))
+    ⊎-elim
+    (λ (t : sameBytes c d ≡ true). absurd (both-ways (sameBytes a b) f (left .1 (back (right .0 t)))))
+    (λ (g : sameBytes c d ≡ false). rw (f, g) refl)
+    (cases-bool (sameBytes c d)))
     (cases-bool (sameBytes a b))
 
 site-below : (high n : ℕ) → high < 2 ^ 32 → 0 < n → site-of-half n high < n
@@ -105,10 +105,10 @@ module _ (m : Meaning) (up down : ℕ → List ℕ → List ℕ) (n : ℕ) (some
       ⊎-elim
       (λ (t : sameBytes x y ≡ true). let e = told .0 t in rw e refl)
       (λ (f : sameBytes x y ≡ false).
-        let apart : x ≡ y → ⊥ = λ e. both-ways (sameBytes x y) f (told .1 e) in
-        sum-same (2 ^ 64) _ _ (λ w h. ap (λ (z : List ℕ). same-as z y) (same w x))
-        ∙ words-by-half up down (2 ^ 31) n (omega arith) x y
-        ∙ sum-same (2 ^ 32) _ _ (λ high h. at-half high h x y hx hy apart)
-        ∙ sym (words-by-half up down (2 ^ 31) n (omega arith) y x)
-        ∙ sym (sum-same (2 ^ 64) _ _ (λ w h. ap (λ (z : List ℕ). same-as z x) (same w y))))
+      let apart : x ≡ y → ⊥ = λ e. both-ways (sameBytes x y) f (told .1 e) in
+      sum-same (2 ^ 64) _ _ (λ w h. ap (λ (z : List ℕ). same-as z y) (same w x))
+      ∙ words-by-half up down (2 ^ 31) n (omega arith) x y
+      ∙ sum-same (2 ^ 32) _ _ (λ high h. at-half high h x y hx hy apart)
+      ∙ sym (words-by-half up down (2 ^ 31) n (omega arith) y x)
+      ∙ sym (sum-same (2 ^ 64) _ _ (λ w h. ap (λ (z : List ℕ). same-as z x) (same w y))))
       (cases-bool (sameBytes x y))

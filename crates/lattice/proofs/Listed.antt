@@ -79,10 +79,10 @@ distinct-fronts xs a zero d = tt
 distinct-fronts xs a (suc n) d =
     distinct-append (map (λ y. a ∷ y) xs) (fronts xs (counting (a + 1) n)) (distinct-front a xs d) (distinct-fronts xs (a + 1) n d)
     (λ z here there.
-      let p = front-parts a xs z here in
-      let q = fronts-parts xs (a + 1) n z there in
-      let e : a ≡ q .0 = same-head a (q .0) (p .0) (q .1) (sym (p .1) ∙ q .2) in
-      omega (arith, e, q .4))
+    let p = front-parts a xs z here in
+    let q = fronts-parts xs (a + 1) n z there in
+    let e : a ≡ q .0 = same-head a (q .0) (p .0) (q .1) (sym (p .1) ∙ q .2) in
+    omega (arith, e, q .4))
 
 -- the list names every list of n values from 0 to m
 pub listed : (m : ℕ) (x : List ℕ) → All (λ v. v ≤ m) x → Holds (value-lists m (length x)) x
@@ -119,8 +119,8 @@ kept-parts test (y ∷ ys) x h =
     let rest : Holds (kept-by test ys) x → Holds (y ∷ ys) x × (test x ≡ true) = λ k. let p = kept-parts test ys x k in (inr (p .0), p .1) in
     ⊎-elim
     (λ (k : test y ≡ true).
-      let both : (x ≡ y) ⊎ Holds (kept-by test ys) x = rw k at h in
-      ⊎-elim (λ e. (inl e, ap test e ∙ k)) rest both)
+    let both : (x ≡ y) ⊎ Holds (kept-by test ys) x = rw k at h in
+    ⊎-elim (λ e. (inl e, ap test e ∙ k)) rest both)
     (λ (k : test y ≡ false). rest (rw k at h))
     (cases-bool (test y))
 

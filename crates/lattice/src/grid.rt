@@ -3,6 +3,7 @@ ghost use mathlib.Core.Path.{_≡_};
 ghost use Prim.Native.Nat.{_*_};
 ghost use Rattle.std.specs.Of.Vec.{vec-len};
 use crate::shape::Shape;
+
 mod methods;
 
 #[derive(Drop)]

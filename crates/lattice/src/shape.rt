@@ -1,6 +1,8 @@
 // The sides and the cap that a rule and its states carry.
 ghost use Prim.Native.Nat.{_≤_};
+
 mod methods;
+
 pub use methods::DIRECTIONS;
 
 // `cap` is the largest value that a cell may hold.

@@ -1,5 +1,6 @@
 // Carries out a task: takes its directives in order, calls the libraries, and writes the answers to any output.
 pub mod input;
-pub mod print;
+pub mod moves;
+mod print;
 pub mod stages;
 pub mod trouble;

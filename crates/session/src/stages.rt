@@ -1,5 +1,7 @@
 // The stages of a task: a rule, then a source, then what is asked of both.
 use crate::input::Lines;
+use crate::moves::Move;
+use crate::moves::move_by;
 use crate::print::say;
 use crate::print::say_cells;
 use crate::print::say_refused;
@@ -9,7 +11,6 @@ use crate::trouble::TroubleFromIo;
 use lattice::fault::StateFault;
 use lattice::fault::StateFaultCause;
 use lattice::kind::Kind;
-use lattice::words::split;
 use sources::counter::Counter;
 use sources::counter::CounterSource;
 use sources::fault::NoWordCause;
@@ -26,12 +27,20 @@ use std::io::Write;
 use task::line::Directive;
 
 // Carries out a task from its first line on.
-pub fn carry_out<R: Read + Drop, W: Write>(rt: &LibcRuntime, lines: &mut Lines<R>, out: &mut W) -> Result<(), Trouble> {
+pub fn carry_out<R: Read + Drop, W: Write>(
+    rt: &LibcRuntime,
+    lines: &mut Lines<R>,
+    out: &mut W,
+) -> Result<(), Trouble> {
     let Some(directive) = lines.next_directive()? else {
         return Ok(());
     };
     match directive {
-        Directive::Spins { rows, columns, thresholds } => match Spins::from_numbers(rows, columns, 1, thresholds) {
+        Directive::Spins {
+            rows,
+            columns,
+            thresholds,
+        } => match Spins::from_numbers(rows, columns, 1, thresholds) {
             Ok(rule) => after_rule(rt, lines, out, &rule),
             Err(fault) => say_refused(rt.alloc(), out, &fault),
         },
@@ -40,7 +49,12 @@ pub fn carry_out<R: Read + Drop, W: Write>(rt: &LibcRuntime, lines: &mut Lines<R
 }
 
 // From the rule on, until the source is given.
-fn after_rule<R: Read + Drop, W: Write, K: Kind>(rt: &LibcRuntime, lines: &mut Lines<R>, out: &mut W, rule: &K) -> Result<(), Trouble> {
+fn after_rule<R: Read + Drop, W: Write, K: Kind>(
+    rt: &LibcRuntime,
+    lines: &mut Lines<R>,
+    out: &mut W,
+    rule: &K,
+) -> Result<(), Trouble> {
     say_rule(rt.alloc(), out, rule)?;
     let Some(directive) = lines.next_directive()? else {
         return Ok(());
@@ -59,7 +73,13 @@ fn after_rule<R: Read + Drop, W: Write, K: Kind>(rt: &LibcRuntime, lines: &mut L
     }
 }
 
-fn with_recording<R: Read + Drop, W: Write, K: Kind>(rt: &LibcRuntime, lines: &mut Lines<R>, out: &mut W, rule: &K, bytes: &[u8]) -> Result<(), Trouble> {
+fn with_recording<R: Read + Drop, W: Write, K: Kind>(
+    rt: &LibcRuntime,
+    lines: &mut Lines<R>,
+    out: &mut W,
+    rule: &K,
+    bytes: &[u8],
+) -> Result<(), Trouble> {
     match Recording::new(bytes) {
         Ok(recording) => after_source(rt, lines, out, rule, &recording),
         Err(fault) => say_refused(rt.alloc(), out, &fault),
@@ -67,7 +87,13 @@ fn with_recording<R: Read + Drop, W: Write, K: Kind>(rt: &LibcRuntime, lines: &m
 }
 
 // From the source on, until the end of the task.
-fn after_source<R: Read + Drop, W: Write, K: Kind, S: Source>(rt: &LibcRuntime, lines: &mut Lines<R>, out: &mut W, rule: &K, source: &S) -> Result<(), Trouble> {
+fn after_source<R: Read + Drop, W: Write, K: Kind, S: Source>(
+    rt: &LibcRuntime,
+    lines: &mut Lines<R>,
+    out: &mut W,
+    rule: &K,
+    source: &S,
+) -> Result<(), Trouble> {
     say(rt.alloc(), out, "source", &[source.depth()])?;
     for _ in 0..u64::MAX {
         let Some(directive) = lines.next_directive()? else {
@@ -82,7 +108,13 @@ fn after_source<R: Read + Drop, W: Write, K: Kind, S: Source>(rt: &LibcRuntime, 
 }
 
 // Moves the bottom by the words of the places `back`, `back - 1`, .., 1, and prints every move.
-fn trace<W: Write, K: Kind, S: Source>(rt: &LibcRuntime, out: &mut W, rule: &K, source: &S, back: u64) -> Result<(), Trouble> {
+fn trace<W: Write, K: Kind, S: Source>(
+    rt: &LibcRuntime,
+    out: &mut W,
+    rule: &K,
+    source: &S,
+    back: u64,
+) -> Result<(), Trouble> {
     if let Err(fault) = source.word(back) {
         return say_refused(rt.alloc(), out, &fault);
     }
@@ -100,11 +132,22 @@ fn trace<W: Write, K: Kind, S: Source>(rt: &LibcRuntime, out: &mut W, rule: &K, 
     Ok(())
 }
 
-fn say_move<W: Write, K: Kind>(rt: &LibcRuntime, out: &mut W, rule: &K, state: &mut K::State, place: u64, word: u64) -> Result<(), Trouble> {
-    let (site, level) = split(word, rule.cell_count());
-    if let Err(fault) = rule.apply(state, word) {
-        return say_refused(rt.alloc(), out, &fault);
+fn say_move<W: Write, K: Kind>(
+    rt: &LibcRuntime,
+    out: &mut W,
+    rule: &K,
+    state: &mut K::State,
+    place: u64,
+    word: u64,
+) -> Result<(), Trouble> {
+    match move_by(rule, state, word) {
+        Ok(Move { site, level }) => {
+            writeln!(
+                out,
+                "place {place} word {word:016x} site {site} level {level}"
+            )?;
+            say_cells(rt.alloc(), out, rule, "state", state)
+        }
+        Err(fault) => say_refused(rt.alloc(), out, &fault),
     }
-    writeln!(out, "place {place} word {word:016x} site {site} level {level}")?;
-    say_cells(rt.alloc(), out, rule, "state", state)
 }

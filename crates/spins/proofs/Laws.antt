@@ -69,10 +69,10 @@ table-rises table rises a zero h k = let e : a ≡ 0 = omega arith in rw e (le-r
 table-rises table rises a (suc b) h k =
     ⊎-elim
     (λ (l : a < suc b).
-      let upto = table-rises table rises a b (omega arith) (omega arith) in
-      let same : suc b - 1 ≡ b = omega arith in
-      let last = rw same at (rises (suc b) k .1 (omega arith)) in
-      omega arith)
+    let upto = table-rises table rises a b (omega arith) (omega arith) in
+    let same : suc b - 1 ≡ b = omega arith in
+    let last = rw same at (rises (suc b) k .1 (omega arith)) in
+    omega arith)
     (λ (g : suc b ≤ a). let e : a ≡ suc b = omega arith in rw e (le-refl _))
     (cases-lt a (suc b))
 
@@ -95,18 +95,18 @@ module _ (e : Extent) (table : List ℕ) where
 
   pub ordered : Ordered (spins-meaning e table)
   ordered = record {
-      reflexive = λ x h i. le-refl _;
-      antisymmetric = λ x y h k low high. cellwise-antisymmetric x y (lawful-parts x h .0 ∙ sym (lawful-parts y k .0)) low high;
-      transitive = λ x y z h k l low high i. le-trans (low i) (high i);
-    }
+    reflexive = λ x h i. le-refl _;
+    antisymmetric = λ x y h k low high. cellwise-antisymmetric x y (lawful-parts x h .0 ∙ sym (lawful-parts y k .0)) low high;
+    transitive = λ x y z h k l low high i. le-trans (low i) (high i);
+  }
 
   pub bounded : Bounded (spins-meaning e table)
   bounded = record {
-      bottom-lawful = lawful-from _ (length-replicate _ 0) (λ k. replicate-upto (cell-count e) 0 1 k (omega arith));
-      top-lawful = lawful-from _ (length-replicate _ 1) (λ k. replicate-upto (cell-count e) 1 1 k (omega arith));
-      above-bottom = λ x h. above-zeros (cell-count e) x;
-      below-top = λ x h. let p = lawful-parts x h in rw (sym (p .0)) (below-replicate x 1 (p .1));
-    }
+    bottom-lawful = lawful-from _ (length-replicate _ 0) (λ k. replicate-upto (cell-count e) 0 1 k (omega arith));
+    top-lawful = lawful-from _ (length-replicate _ 1) (λ k. replicate-upto (cell-count e) 1 1 k (omega arith));
+    above-bottom = λ x h. above-zeros (cell-count e) x;
+    below-top = λ x h. let p = lawful-parts x h in rw (sym (p .0)) (below-replicate x 1 (p .1));
+  }
 
   pub closed : Closed (spins-meaning e table)
   closed w hw x h = let p = lawful-parts x h in lawful-from _ (length-set x _ _ ∙ p .0) (set-upto x _ _ 1 (p .1) (spin-upto _ _))
@@ -129,13 +129,14 @@ module _ (e : Extent) (table : List ℕ) where
   -- the first cell that is no spin is the first bad cell
   pub first-bad : (x : List ℕ) (i : ℕ) → length x ≡ cell-count e → i < length x → ((j : ℕ) → j < i → getD x j 0 ≤ 1) → 1 < getD x i 0 → First-bad (spins-meaning e table) x i
   first-bad x i long within spins bad = record {
-      within = within;
-      before =
-        (take i x ++ replicate (length x - i) 0,
-          lawful-from (take i x ++ replicate (length x - i) 0) (filled-up x i (omega arith) ∙ long) (append-upto (take i x) (replicate (length x - i) 0) 1 (take-upto x i 1 spins) (λ k. replicate-upto (length x - i) 0 1 k (omega arith))),
-          take-at (take i x) (replicate (length x - i) 0) (length (take i x)) refl);
-      up-to = λ b.
+    within = within;
+    before = (
+      take i x ++ replicate (length x - i) 0,
+      lawful-from (take i x ++ replicate (length x - i) 0) (filled-up x i (omega arith) ∙ long) (append-upto (take i x) (replicate (length x - i) 0) 1 (take-upto x i 1 spins) (λ k. replicate-upto (length x - i) 0 1 k (omega arith))),
+      take-at (take i x) (replicate (length x - i) 0) (length (take i x)) refl,
+    );
+    up-to = λ b.
         let same = begins-same x (b .0) (i + 1) (omega arith) (b .2) i (omega arith) in
         let spin = lawful-parts (b .0) (b .1) .1 i in
         omega arith;
-    }
+  }

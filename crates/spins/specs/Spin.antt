@@ -25,9 +25,9 @@ new-spin e table x i l = cond (ltb l (getD table (threshold-index e x i) 0)) 1 0
 
 abbrev pub spins-meaning : Extent → List ℕ → Meaning
 spins-meaning e table = record {
-    states = value-lists 1 (cell-count e);
-    below = cellwise;
-    bottom = replicate (cell-count e) 0;
-    top = replicate (cell-count e) 1;
-    step = λ w x. set x (site (cell-count e) w) (new-spin e table x (site (cell-count e) w) (level w));
-  }
+  states = value-lists 1 (cell-count e);
+  below = cellwise;
+  bottom = replicate (cell-count e) 0;
+  top = replicate (cell-count e) 1;
+  step = λ w x. set x (site (cell-count e) w) (new-spin e table x (site (cell-count e) w) (level w));
+}

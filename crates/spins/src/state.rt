@@ -3,7 +3,7 @@ ghost use Prim.Native.Nat.{ℕ, _≤_};
 ghost use lib.ListN.{getD};
 ghost use Rattle.lattice.specs.Grids.{grid-cells};
 use lattice::grid::Grid;
-mod methods;
+
 
 #[derive(Drop)]
 pub struct SpinGrid {

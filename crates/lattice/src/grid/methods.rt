@@ -13,9 +13,9 @@ ghost use Rattle.refusal.specs.Refusals.{answer};
 ghost use Rattle.std.specs.Of.Vec.{vec-items, vec-len};
 ghost use Rattle.std.specs.Orderings.{Decides};
 ghost use Rattle.std.specs.Vec.{made};
+use super::Grid;
 use crate::fault::StateFault;
 use crate::shape::Shape;
-use super::Grid;
 use std::alloc::AllocError;
 use std::alloc::Global;
 
@@ -45,7 +45,11 @@ impl Grid {
     pub fn get(&self, cell: usize) -> u8
         ensures { λ r. ⌜ r ≡ getD (grid-cells (now (self .entry))) cell 0 ⌝ }
     {
-        if cell < self.cells.len() { self.cells[cell] } else { 0 }
+        if cell < self.cells.len() {
+            self.cells[cell]
+        } else {
+            0
+        }
     }
 
     // Whether the grid has this shape.
@@ -56,12 +60,12 @@ impl Grid {
     }
 
     // Writes one cell; past the last cell nothing changes.
-    pub fn put(&mut self, cell: usize, value: u8)
-        ensures writes { λ _. ⌜ grid-cells (now (self .exit)) ≡ set (grid-cells (now (self .entry))) cell value ⌝ }
+    pub fn put(&mut self, at: usize, value: u8)
+        ensures writes { λ _. ⌜ grid-cells (now (self .exit)) ≡ set (grid-cells (now (self .entry))) at value ⌝ }
         ensures keeps { λ _. ⌜ grid-extent (now (self .exit)) ≡ grid-extent (now (self .entry)) ⌝ }
     {
-        if cell < self.cells.len() {
-            self.cells[cell] = value;
+        if at < self.cells.len() {
+            self.cells[at] = value;
         }
     }
 

@@ -4,8 +4,8 @@ ghost use Rattle.lattice.specs.Faults.{shape-refusal};
 ghost use Rattle.lattice.specs.Grid.{agree, beside, cell-count};
 ghost use Rattle.refusal.specs.Refusals.{answer};
 ghost use Rattle.lattice.specs.Shapes.{extent-of, shape-answer};
-use crate::fault::ShapeFault;
 use super::Shape;
+use crate::fault::ShapeFault;
 
 // The row and column shifts to the cells above, below, left and right.
 pub const DIRECTIONS: [(isize, isize); 4] = [(-1, 0), (1, 0), (0, -1), (0, 1)];

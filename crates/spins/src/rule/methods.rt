@@ -1,31 +1,30 @@
-// Making a rule, and the new value of a spin.
+// Making a rule.
 ghost use mathlib.Core.Path.{_≡_};
-ghost use mathlib.Core.Bool.{cond};
-ghost use lib.Dec.{ltb};
-ghost use lib.ListN.{getD};
 ghost use Rattle.lattice.specs.Faults.{shape-refusal};
 ghost use Rattle.lattice.specs.Shapes.{shape-answer};
 ghost use Rattle.refusal.specs.Refusals.{answer};
 ghost use Rattle.spins.specs.Faults.{Rule-answers, spins-refusal, with-table};
-ghost use Rattle.spins.specs.Spin.{threshold-index};
-ghost use Rattle.spins.specs.Spins.{rule-parts, spin-cells, spins-extent, spins-table, table-of};
+ghost use Rattle.spins.specs.Spins.{rule-parts, table-of};
+use super::Spins;
 use crate::fault::SpinsFault;
 use crate::fault::SpinsFaultFromShape;
 use crate::fault::SpinsFaultFromTable;
-use crate::state::SpinGrid;
 use crate::thresholds::Nine;
 use crate::thresholds::Thresholds;
 use lattice::fault::ShapeFault;
-use lattice::shape::DIRECTIONS;
 use lattice::shape::Shape;
-use super::Spins;
 
 impl Spins {
     // The only cap of spin grids.
     pub const CAP: u8 = 1;
 
     // The rule for grids of these sides, with this table.
-    pub fn new(rows: u64, columns: u64, cap: u64, thresholds: Thresholds) -> Result<Spins, ShapeFault>
+    pub fn new(
+        rows: u64,
+        columns: u64,
+        cap: u64,
+        thresholds: Thresholds,
+    ) -> Result<Spins, ShapeFault>
         ensures { λ r. ⌜ answer rule-parts shape-refusal r ≡ with-table (table-of thresholds) (shape-answer rows columns «cap» 1) ⌝ }
     {
         let shape = Shape::new(rows, columns, cap, Self::CAP)?;
@@ -33,29 +32,16 @@ impl Spins {
     }
 
     // The same from plain numbers: sides and cap are tested before the thresholds.
-    pub fn from_numbers(rows: u64, columns: u64, cap: u64, values: Nine) -> Result<Spins, SpinsFault>
+    pub fn from_numbers(
+        rows: u64,
+        columns: u64,
+        cap: u64,
+        values: Nine,
+    ) -> Result<Spins, SpinsFault>
         ensures { λ r. ⌜ Rule-answers (shape-answer rows columns «cap» 1) values (answer rule-parts spins-refusal r) ⌝ }
     {
         let shape = Shape::new(rows, columns, cap, Spins::CAP)?;
         let thresholds = Thresholds::new(values)?;
         Ok(Spins { shape, thresholds })
-    }
-
-    // The index of the threshold that decides the site: 4, and one more for each neighbour that is up, one less for each
-    // that is down.
-    pub(super) fn threshold_index(&self, state: &SpinGrid, site: usize) -> usize
-        ensures { λ r. ⌜ r ≡ threshold-index (spins-extent (now (self .entry))) (spin-cells (now (state .entry))) site ⌝ }
-    {
-        let mut index = 4;
-        for shift in DIRECTIONS {
-            if let Some(neighbour) = self.shape.beside(site, shift) {
-                if state.is_up(neighbour) {
-                    index += 1;
-                } else {
-                    index -= 1;
-                }
-            }
-        }
-        index
     }
 }

@@ -4,9 +4,9 @@ ghost use lib.ListN.{getD};
 ghost use Rattle.refusal.specs.Refusals.{answer};
 ghost use Rattle.spins.specs.Faults.{Table-answers, table-refusal};
 ghost use Rattle.spins.specs.Spins.{table-of};
-use crate::fault::TableFault;
 use super::Nine;
 use super::Thresholds;
+use crate::fault::TableFault;
 
 const HIGHEST: u64 = 1 << 32;
 
