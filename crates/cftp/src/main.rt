@@ -66,7 +66,10 @@ fn perform<R: Read + Drop>(rt: &LibcRuntime, reader: BufReader<R>) -> io::Result
     match carry_out(rt, &mut lines, &mut rt.stdout()) {
         Ok(()) => Ok(true),
         Err(trouble) => {
-            let stopped = Stopped { line: lines.number(), trouble };
+            let stopped = Stopped {
+                line: lines.number(),
+                trouble,
+            };
             eprintln!(rt, "{stopped}")?;
             Ok(false)
         }

@@ -7,5 +7,9 @@ use lattice::words::split;
 pub fn six_cells() -> [(u32, u32); 3]
     ensures { λ r. ⌜ r ≡ (0, 0) ∷ (3, 0) ∷ (5, 4294967295) ∷ [] ⌝ }
 {
-    [split(0, 6), split(0x8000_0000_0000_0000, 6), split(0xffff_ffff_ffff_ffff, 6)]
+    [
+        split(0, 6),
+        split(0x8000_0000_0000_0000, 6),
+        split(0xffff_ffff_ffff_ffff, 6),
+    ]
 }

@@ -31,7 +31,11 @@ pub impl From<io::Error> for Failed as FailedFromIo {
     }
 }
 
-pub fn say<T: Drop, E: Cause + Drop>(rt: &LibcRuntime, what: &str, answer: Result<T, E>) -> Result<(), Failed> {
+pub fn say<T: Drop, E: Cause + Drop>(
+    rt: &LibcRuntime,
+    what: &str,
+    answer: Result<T, E>,
+) -> Result<(), Failed> {
     match answer {
         Ok(_) => println!(rt, "{what}: accepted")?,
         Err(cause) => say_refused(rt, what, &cause)?,

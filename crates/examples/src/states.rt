@@ -53,7 +53,11 @@ fn loads<K: Kind>(rt: &LibcRuntime, rule: &K) -> Result<(), Failed> {
         return Err(Failed::Memory);
     };
     say(rt, "six cells", rule.load(&mut state, &[1, 0, 1, 1, 0, 1]))?;
-    say(rt, "seven bytes", rule.load(&mut state, &[1, 1, 1, 1, 0, 1, 7]))?;
+    say(
+        rt,
+        "seven bytes",
+        rule.load(&mut state, &[1, 1, 1, 1, 0, 1, 7]),
+    )?;
     say(rt, "five bytes", rule.load(&mut state, &[1, 0, 1, 1, 0]))?;
     for bad in 0..6 {
         let mut bytes = [1, 0, 1, 0, 1, 0];

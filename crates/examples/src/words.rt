@@ -25,16 +25,27 @@ fn recordings(rt: &LibcRuntime) -> Result<(), Failed> {
     say(rt, "recording of 8 bytes", Recording::new(b"12345678"))?;
     say(rt, "recording of 7 bytes", Recording::new(b"1234567"))?;
     say(rt, "recording of 0 bytes", Recording::new(b""))?;
-    let long = vec![in rt.alloc(); 0u8; 8_388_616]?;
-    say(rt, "recording of 8388608 bytes", Recording::new(&long[0..8_388_608]))?;
-    say(rt, "recording of 8388616 bytes", Recording::new(&long[0..8_388_616]))?;
-    let Ok(two) = Recording::new(b"\x00\x00\x00\x00\x00\x00\x01\x02\xff\x00\x00\x00\x00\x00\x00\x00") else {
-        return Err(Failed::Example);
-    };
-    for place in 0..4 {
-        word(rt, "a recording", &two, place)?;
+    let zeros = vec![in rt.alloc(); 0u8; 8_388_616]?;
+    recording(rt, "recording of 8388608 bytes", &zeros[0..8_388_608])?;
+    recording(rt, "recording of 8388616 bytes", &zeros[0..8_388_616])?;
+    recorded_words(rt, b"\x00\x00\x00\x00\x00\x00\x01\x02\xff\x00\x00\x00\x00\x00\x00\x00")
+}
+
+fn recording(rt: &LibcRuntime, what: &str, bytes: &[u8]) -> Result<(), Failed> {
+    say(rt, what, Recording::new(bytes))
+}
+
+// The words of a recording, and what is at the places before the first and after the last.
+fn recorded_words(rt: &LibcRuntime, bytes: &[u8]) -> Result<(), Failed> {
+    match Recording::new(bytes) {
+        Ok(recording) => {
+            for place in 0..4 {
+                word(rt, "a recording", &recording, place)?;
+            }
+            Ok(())
+        }
+        Err(_) => Err(Failed::Example),
     }
-    Ok(())
 }
 
 fn generator(rt: &LibcRuntime) -> Result<(), Failed> {
@@ -43,7 +54,11 @@ fn generator(rt: &LibcRuntime) -> Result<(), Failed> {
         word(rt, "seed 0", &counter, place)?;
     }
     say(rt, "place 1099511627776 of seed 0", counter.word(1 << 40))?;
-    say(rt, "place 1099511627777 of seed 0", counter.word((1 << 40) + 1))
+    say(
+        rt,
+        "place 1099511627777 of seed 0",
+        counter.word((1 << 40) + 1),
+    )
 }
 
 // The word at a place, in hex.

@@ -34,13 +34,10 @@ impl From<io::Error> for Failed as FailedFromIo {
 }
 
 fn main(rt: LibcRuntime) -> Result<(), Failed> {
-    let bytes = fs::read(&rt, "words.txt")?;
+    let text = fs::read_to_string(&rt, "words.txt")?;
     let mut count = 0u32;
-    for line in bytes.as_slice().split(&b'\n') {
-        if line.is_empty() {
-            continue;
-        }
-        if !agrees(rt.alloc(), line)? {
+    for line in text.lines() {
+        if !agrees(rt.alloc(), line.as_bytes())? {
             return Err(Failed::Differs);
         }
         count = count.saturating_add(1);
@@ -52,10 +49,18 @@ fn main(rt: LibcRuntime) -> Result<(), Failed> {
 // Whether the generator has the word of this line.
 fn agrees(heap: Global, line: &[u8]) -> Result<bool, Failed> {
     let mut words = Words::new(line);
-    let (Some(seed), Some(place), Some(word)) = (words.next_word(), words.next_word(), words.next_word()) else {
+    let (Some(seed), Some(place), Some(word)) = (
+        words.next_word(),
+        words.next_word(),
+        words.next_word(),
+    ) else {
         return Err(Failed::Unreadable);
     };
-    let (Some(seed), Some(place), Some(word)) = (number(seed), number(place), hex_bytes(heap, word)?) else {
+    let (Some(seed), Some(place), Some(word)) = (
+        number(seed),
+        number(place),
+        hex_bytes(heap, word)?,
+    ) else {
         return Err(Failed::Unreadable);
     };
     match Counter::new(seed).word(place) {

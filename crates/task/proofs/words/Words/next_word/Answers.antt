@@ -1,0 +1,29 @@
+use mathlib.Core.List.{List, []}
+use mathlib.Core.Path.{_≡_, sym, ap, _∙_}
+use Prim.Native.Nat.{ℕ, _<_}
+use native.Mathlib.Omega.{arith}
+use borrow.Author.Needs.{needs}
+use lib.ListN.{length, drop}
+use Rattle.std.proofs.shelf.Lists.{nil-from-length}
+use Rattle.std.proofs.shelf.Sums.{leading-le-length}
+use Rattle.std.proofs.shelf.Tests.{eqb-true, eqb-false}
+use Rattle.task.specs.Text.{left, solid, blank, past, words, first, after-word}
+use Rattle.task.proofs.Cuts.{lead, word-is, rest-is, no-word, a-word}
+use Rattle.task.proofs.words.Words.next_word.Needs as need
+
+pub split-at-requires : need.split-at-requires
+split-at-requires c κs = search (needs, leading-le-length solid)
+
+pub returns-then-is-empty : need.returns-then-is-empty
+returns-then-is-empty c =
+    let w = word-is (left (c .args .self .now)) _ _ (c .trim-start-text .ensures) (c .word-len .ensures) _ (c .split-at .ensures .front) in
+    let r = rest-is (left (c .args .self .now)) _ _ (c .trim-start-text .ensures) (c .word-len .ensures) _ (c .split-at .ensures .back) in
+    let none = no-word (left (c .args .self .now)) (sym w ∙ nil-from-length _ (eqb-true _ 0 (sym (c .if-is-empty .ensures tt)))) in
+    record { word = sym (ap first (none .0)); rest = r; more = ap words r ∙ none .1 ∙ sym (ap (drop 1) (none .0)) }
+
+pub returns-else-is-empty : need.returns-else-is-empty
+returns-else-is-empty c =
+    let w = word-is (left (c .args .self .now)) _ _ (c .trim-start-text .ensures) (c .word-len .ensures) _ (c .split-at .ensures .front) in
+    let r = rest-is (left (c .args .self .now)) _ _ (c .trim-start-text .ensures) (c .word-len .ensures) _ (c .split-at .ensures .back) in
+    let some = a-word (left (c .args .self .now)) (omega (arith, ap length w, eqb-false _ 0 (sym (c .if-is-empty .ensures tt)))) in
+    record { word = cc; rest = r; more = cc }

@@ -1,0 +1,5 @@
+pub mod Answers
+pub mod Fields
+pub mod Laws
+pub mod Lines
+pub mod Text
