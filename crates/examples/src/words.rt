@@ -51,12 +51,12 @@ fn recorded_words(rt: &LibcRuntime, bytes: &[u8]) -> Result<(), Failed> {
 fn generator(rt: &LibcRuntime) -> Result<(), Failed> {
     let counter = Counter::new(0);
     for place in 0..4 {
-        word(rt, "seed 0", &counter, place)?;
+        word(rt, "the generator", &counter, place)?;
     }
-    say(rt, "place 1099511627776 of seed 0", counter.word(1 << 40))?;
+    say(rt, "place 1099511627776 of the generator", counter.word(1 << 40))?;
     say(
         rt,
-        "place 1099511627777 of seed 0",
+        "place 1099511627777 of the generator",
         counter.word((1 << 40) + 1),
     )
 }
