@@ -72,7 +72,7 @@ abbrev pub Undo : Meaning → (up down : ℕ → List ℕ → List ℕ) → ℕ 
 Undo m up down n = (i : ℕ) → i < n → (x y : List ℕ) → Lawful m x → Lawful m y → (x ≡ y → ⊥) → (up i x ≡ y → down i y ≡ x) × (down i x ≡ y → up i y ≡ x)
 
 -- two comparisons that follow from one another count the same
-same-counts : (a b c d : List ℕ) → (a ≡ b → c ≡ d) → (c ≡ d → a ≡ b) → same-as a b ≡ same-as c d
+pub same-counts : (a b c d : List ℕ) → (a ≡ b → c ≡ d) → (c ≡ d → a ≡ b) → same-as a b ≡ same-as c d
 same-counts a b c d there back =
     let left = sameBytes-decides a b in
     let right = sameBytes-decides c d in

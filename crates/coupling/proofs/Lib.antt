@@ -1,0 +1,7 @@
+pub mod Filled
+pub mod Outcomes
+pub mod Samples
+pub mod Sandwich
+pub mod Shares
+pub mod Stationary
+pub mod Sums

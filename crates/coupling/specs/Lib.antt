@@ -1,0 +1,4 @@
+pub mod Lead
+pub mod Windows
+pub mod Ends
+pub mod Shares
