@@ -82,6 +82,48 @@ class Spins(Grid):
         x[site] = int(level < self.table[s + 4])
 
 
+class Partitions(Grid):
+    code = 2
+
+    def __init__(self, rows, columns, cap):
+        super().__init__(rows, columns, cap, 255)
+
+    def bottom(self):
+        return [0] * self.n
+
+    def move(self, x, site, level):
+        r, c = divmod(site, self.columns)
+        if level < 2**31:
+            before = []
+            if r > 0:
+                before.append(x[site - self.columns])
+            if c > 0:
+                before.append(x[site - 1])
+            if x[site] < self.cap and all(h > x[site] for h in before):
+                x[site] += 1
+        else:
+            after = []
+            if r + 1 < self.rows:
+                after.append(x[site + self.columns])
+            if c + 1 < self.columns:
+                after.append(x[site + 1])
+            if x[site] > 0 and all(h < x[site] for h in after):
+                x[site] -= 1
+
+
+class Sets(Grid):
+    code = 3
+
+    def __init__(self, rows, columns):
+        super().__init__(rows, columns, 1, 1)
+
+    def bottom(self):
+        return [(i // self.columns + i % self.columns) % 2 for i in range(self.n)]
+
+    def move(self, x, site, level):
+        x[site] = int(level < 2**31 and not any(x[j] for j in self.neighbours(site)))
+
+
 def split(w, n):
     return (w >> 32) * n >> 32, w & 0xFFFFFFFF
 
@@ -112,13 +154,14 @@ def hexed(words):
     return b"" if w == "-" else bytes.fromhex(w)
 
 
-DIRECTIVES = ("spins", "seed", "recording", "recording-file", "trace")
+RULES = {"spins": 11, "partitions": 3, "sets": 2}
+DIRECTIVES = (*RULES, "seed", "recording", "recording-file", "trace")
 
 
 def check_words(name, rest):
     """A line is read whole before its place in the task matters."""
-    if name == "spins":
-        numbers(rest, 11)
+    if name in RULES:
+        numbers(rest, RULES[name])
     elif name in ("seed", "trace"):
         numbers(rest, 1)
     elif name == "recording":
@@ -144,9 +187,12 @@ def line(text, have):
     if not words or words[0].startswith("#"):
         return
     name, rest = words[0], words[1:]
-    if name == "spins" and "rule" not in have:
-        n = numbers(rest, 11)
-        have["rule"] = Spins(n[0], n[1], n[2:])
+    if name in RULES and "rule" not in have:
+        n = numbers(rest, RULES[name])
+        if name == "spins":
+            have["rule"] = Spins(n[0], n[1], n[2:])
+        else:
+            have["rule"] = (Partitions if name == "partitions" else Sets)(*n)
         print("rule", have["rule"].code, have["rule"].rows, have["rule"].columns, have["rule"].cap)
     elif name in ("seed", "recording", "recording-file") and "rule" in have and "source" not in have:
         if name == "seed":
@@ -176,10 +222,14 @@ def main():
             print("refused", *r.args)
             if "source" not in have:
                 return 0
-        except (Stop, OSError) as s:
+        except Stop as s:
             print(f"line {count}: {s}", file=sys.stderr)
+            return 1
+        except OSError as e:
+            print(f"line {count}: {e.strerror} (os error {e.errno})", file=sys.stderr)
             return 1
     return 0
 
 
-sys.exit(main())
+if __name__ == "__main__":
+    sys.exit(main())

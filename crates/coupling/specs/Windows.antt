@@ -1,7 +1,7 @@
 -- The words of a window, and which windows a source can fill.
 -- A batch gives each of its draws a stretch of places: draw number d, counted from 0, has the places d * stretch + 1 to
--- d * stretch + stretch. Window T of a draw is its places T, T - 1, .., 1, so that place 1 is the last move before time
--- zero.
+-- d * stretch + stretch. Window T of a draw is its places T, T - 1, .., 1 in this order: place 1 makes the last move, and
+-- after it comes time zero.
 use mathlib.Core.Bool.{true}
 use mathlib.Core.List.{List, [], _∷_}
 use mathlib.Core.Path.{_≡_}
@@ -23,6 +23,6 @@ pub record Can-fill (r : Reading) (stretch d T : ℕ) : Type 0 where
   pub fits : T ≤ stretch
   pub oldest : has-place r (draw-place stretch d T) ≡ true
 
--- Two sources agree if they give the same word wherever both have one.
+-- Two sources agree if no place has one word in the first and another in the second.
 abbrev pub Agree : Reading → Reading → Type 0
 Agree r q = (place : ℕ) → has-place r place ≡ true → has-place q place ≡ true → r .word place ≡ q .word place

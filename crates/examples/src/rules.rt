@@ -1,6 +1,10 @@
 // Rules: sides, caps and threshold tables.
+use crate::proved::frozen_spins;
 use crate::say::Failed;
 use crate::say::say;
+use independent_sets::rule::IndependentSets;
+use lattice::fault::ShapeFaultCause;
+use partitions::rule::Partitions;
 use spins::fault::SpinsFaultCause;
 use spins::fault::TableFaultCause;
 use spins::rule::Spins;
@@ -22,7 +26,19 @@ pub fn show(rt: &LibcRuntime) -> Result<(), Failed> {
         "cap before thresholds",
         Spins::from_numbers(1, 1, 2, over),
     )?;
+    say(rt, "frozen spins", frozen_spins())?;
+    caps(rt)?;
     tables(rt)
+}
+
+// The largest cap of each kind, and one more.
+fn caps(rt: &LibcRuntime) -> Result<(), Failed> {
+    say(rt, "partitions with cap 255", Partitions::new(32, 32, 255))?;
+    say(rt, "partitions with cap 256", Partitions::new(32, 32, 256))?;
+    say(rt, "partitions with cap 0", Partitions::new(32, 32, 0))?;
+    say(rt, "partitions 33 by 1 with cap 256", Partitions::new(33, 1, 256))?;
+    say(rt, "sets with cap 1", IndependentSets::new(32, 32, 1))?;
+    say(rt, "sets with cap 2", IndependentSets::new(32, 32, 2))
 }
 
 fn tables(rt: &LibcRuntime) -> Result<(), Failed> {

@@ -8,9 +8,14 @@ use crate::print::say_refused;
 use crate::print::say_rule;
 use crate::trouble::Trouble;
 use crate::trouble::TroubleFromIo;
+use independent_sets::rule::IndependentSets;
+use independent_sets::rule::IndependentSetsKind;
+use lattice::fault::ShapeFaultCause;
 use lattice::fault::StateFault;
 use lattice::fault::StateFaultCause;
 use lattice::kind::Kind;
+use partitions::rule::Partitions;
+use partitions::rule::PartitionsKind;
 use sources::counter::Counter;
 use sources::counter::CounterSource;
 use sources::fault::NoWordCause;
@@ -41,6 +46,14 @@ pub fn carry_out<R: Read + Drop, W: Write>(
             columns,
             thresholds,
         } => match Spins::from_numbers(rows, columns, 1, thresholds) {
+            Ok(rule) => after_rule(rt, lines, out, &rule),
+            Err(fault) => say_refused(rt.alloc(), out, &fault),
+        },
+        Directive::Partitions { rows, columns, cap } => match Partitions::new(rows, columns, cap) {
+            Ok(rule) => after_rule(rt, lines, out, &rule),
+            Err(fault) => say_refused(rt.alloc(), out, &fault),
+        },
+        Directive::Sets { rows, columns } => match IndependentSets::new(rows, columns, 1) {
             Ok(rule) => after_rule(rt, lines, out, &rule),
             Err(fault) => say_refused(rt.alloc(), out, &fault),
         },

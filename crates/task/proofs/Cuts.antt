@@ -1,6 +1,6 @@
 -- One word cut from the front of a text.
 use mathlib.Core.Bool.{Bool, true, false, cond}
-use mathlib.Core.List.{List, [], _∷_, _++_}
+use mathlib.Core.List.{List, [], _∷_}
 use mathlib.Core.Logic.{inl, inr}
 use mathlib.Core.Path.{_≡_, refl, sym, _∙_, ap}
 use native.Mathlib.Numerals.{one-add}
@@ -9,7 +9,7 @@ use native.Mathlib.Omega.{arith}
 use lib.ListN.{length, take, drop}
 use Rattle.std.proofs.shelf.Tests.{cases-bool}
 use Rattle.std.specs.shelf.Lists.{kept-by, leading}
-use Rattle.task.specs.Text.{blank, solid, past, pieces, begun, some, words, after-word}
+use Rattle.task.specs.Text.{blank, solid, past, pieces, some, words, after-word}
 
 -- The leading bytes that pass the test.
 abbrev pub lead : (ℕ → Bool) → List ℕ → List ℕ

@@ -1,12 +1,12 @@
 -- What stands past the blanks, from the front and from the back.
-use mathlib.Core.Bool.{Bool, true, false, cond}
+use mathlib.Core.Bool.{Bool, true, false}
 use mathlib.Core.List.{List, [], _∷_, _++_, reverse}
 use mathlib.Core.Logic.{inl, inr}
 use mathlib.Core.Path.{_≡_, refl, sym, _∙_, ap}
 use native.Mathlib.Omega.{arith}
 use Prim.Native.Nat.{ℕ}
 use Rattle.std.proofs.shelf.Elements.{all-push}
-use Rattle.std.proofs.shelf.Lists.{reverse-append, reverse-reverse, append-assoc}
+use Rattle.std.proofs.shelf.Lists.{reverse-append, reverse-reverse}
 use Rattle.std.proofs.shelf.Tests.{cases-bool}
 use Rattle.std.specs.shelf.Lists.{All}
 use Rattle.task.specs.Laws.{Blank, Solid, Trims}

@@ -13,13 +13,13 @@ use Rattle.std.proofs.shelf.Ways.{tells, not-from-decides, same-from-decides}
 use Rattle.std.specs.shelf.Text.{sameBytes}
 use Rattle.std.specs.Text.{digitChar, lower}
 use Rattle.std.specs.shelf.Lists.{All}
-use Rattle.task.specs.Laws.{hex-text, Writes, Reads-hex}
+use Rattle.task.specs.Laws.{hex-text, Reads-hex}
 use Rattle.std.specs.Lexical.{Matches}
 use Rattle.std.specs.Options.{mapped}
 use Rattle.std.specs.Orderings.{Decides}
 use Rattle.std.specs.declared.option.Option.{Option}
 use Rattle.std.specs.declared.option.Option.the-variants.{Some, None}
-use Rattle.task.specs.Text.{from-to, both, hex-digit, hex-byte, hex-bytes, hex-pairs}
+use Rattle.task.specs.Text.{both, hex-digit, hex-byte, hex-bytes, hex-pairs}
 
 regroup : (xs : List ℕ) (b : ℕ) (o : Option (List ℕ)) → mapped (λ rest. (xs ++ b ∷ []) ++ rest) o ≡ mapped (λ rest. xs ++ rest) (both (λ x rest. x ∷ rest) (Some b) o)
 regroup xs b None = refl

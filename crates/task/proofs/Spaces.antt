@@ -1,15 +1,13 @@
 -- The words of a line fill it, but for blanks.
-use mathlib.Core.Bool.{Bool, true, false, cond}
 use mathlib.Core.List.{List, [], _∷_, _++_}
 use mathlib.Core.Logic.{inl, inr}
-use mathlib.Core.Path.{_≡_, refl, sym, _∙_, ap}
-use Prim.Native.Nat.{ℕ, _<_}
+use mathlib.Core.Path.{_≡_, refl, ap}
+use Prim.Native.Nat.{ℕ}
 use native.Mathlib.Omega.{arith}
-use lib.ListN.{length}
 use Rattle.std.proofs.shelf.Tests.{cases-bool}
 use Rattle.std.specs.shelf.Lists.{All, kept-by}
-use Rattle.task.specs.Laws.{Blank, Solid, Word, Parted, Spaced}
-use Rattle.task.specs.Text.{blank, pieces, begun, some, words}
+use Rattle.task.specs.Laws.{Blank, Solid, Parted, Spaced}
+use Rattle.task.specs.Text.{blank, pieces, some, words}
 
 -- The text is cut into a first piece, which may be empty, and the words behind it.
 pub record Pieced (text p : List ℕ) (ws : List (List ℕ)) : Type 0 where

@@ -16,7 +16,7 @@ use Rattle.std.specs.shelf.Text.{sameBytes}
 use Rattle.task.specs.Fields.{bytes-due, numbers-due, path-due, read-as, with-it}
 use Rattle.task.specs.Text.{after-word, first, trimmed, words}
 use Rattle.task.specs.declared.line.Directive.{Directive}
-use Rattle.task.specs.declared.line.Directive.the-variants.{Spins, Seed, Recording, RecordingFile, Trace}
+use Rattle.task.specs.declared.line.Directive.the-variants.{Spins, Partitions, Sets, Seed, Recording, RecordingFile, Trace}
 use Rattle.task.specs.declared.line.Expected.{Expected}
 use Rattle.task.specs.declared.line.Expected.the-variants.{Directive as a-directive}
 use Rattle.task.specs.declared.directives.Name.{Name}
@@ -26,6 +26,8 @@ use Rattle.task.specs.declared.line.Reading as reading
 -- What a directive asks for.
 pub data Request : Type 0 where
   spins : (rows columns : ℕ) (thresholds : List ℕ) → Request
+  partitions : (rows columns largest : ℕ) → Request
+  sets : (rows columns : ℕ) → Request
   seed : ℕ → Request
   recording : List ℕ → Request
   recording-file : List ℕ → Request
@@ -39,6 +41,8 @@ pub data Line : Type 0 where
 abbrev pub names : List (List ℕ × Name)
 names =
     (codes "spins", Name.Spins)
+    ∷ (codes "partitions", Name.Partitions)
+    ∷ (codes "sets", Name.Sets)
     ∷ (codes "seed", Name.Seed)
     ∷ (codes "recording", Name.Recording)
     ∷ (codes "recording-file", Name.RecordingFile)
@@ -60,6 +64,8 @@ name-of w = among names w
 -- The request of each directive, by what stands behind its name.
 abbrev pub request : Name → List ℕ → Result Request Expected
 request Name.Spins rest = read-as (λ ns. spins (getD ns 0 0) (getD ns 1 0) (drop 2 ns)) (numbers-due 11 (words rest))
+request Name.Partitions rest = read-as (λ ns. partitions (getD ns 0 0) (getD ns 1 0) (getD ns 2 0)) (numbers-due 3 (words rest))
+request Name.Sets rest = read-as (λ ns. sets (getD ns 0 0) (getD ns 1 0)) (numbers-due 2 (words rest))
 request Name.Seed rest = read-as (λ ns. seed (getD ns 0 0)) (numbers-due 1 (words rest))
 request Name.Recording rest = read-as recording (bytes-due (words rest))
 request Name.RecordingFile rest = read-as recording-file (path-due (trimmed rest))
@@ -84,6 +90,8 @@ line-meaning line = by-name (first (words line)) (after-word line)
 -- What the program's values stand for.
 abbrev pub request-of : Directive → Request
 request-of (Spins rows columns thresholds) = spins rows columns thresholds
+request-of (Partitions rows columns most) = partitions rows columns most
+request-of (Sets rows columns) = sets rows columns
 request-of (Seed n) = seed n
 request-of (Recording bytes) = recording (vec-items bytes)
 request-of (RecordingFile path) = recording-file (vec-items path)

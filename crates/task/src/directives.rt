@@ -17,14 +17,18 @@ use std::alloc::Global;
 #[derive(Clone, Copy)]
 pub enum Name {
     Spins,
+    Partitions,
+    Sets,
     Seed,
     Recording,
     RecordingFile,
     Trace,
 }
 
-const NAMES: [(&[u8], Name); 5] = [
+const NAMES: [(&[u8], Name); 7] = [
     (b"spins", Name::Spins),
+    (b"partitions", Name::Partitions),
+    (b"sets", Name::Sets),
     (b"seed", Name::Seed),
     (b"recording", Name::Recording),
     (b"recording-file", Name::RecordingFile),
@@ -60,6 +64,8 @@ pub fn read_directive(
 {
     match name {
         Name::Spins => Ok(spins(rest)),
+        Name::Partitions => Ok(partitions(rest)),
+        Name::Sets => Ok(sets(rest)),
         Name::Seed => Ok(seed(rest)),
         Name::Recording => recording(heap, rest),
         Name::RecordingFile => recording_file(heap, rest),
@@ -78,6 +84,20 @@ fn spins(rest: Words) -> Result<Directive, Expected>
         columns,
         thresholds,
     })
+}
+
+fn partitions(rest: Words) -> Result<Directive, Expected>
+    ensures { λ r. ⌜ read-as request-of r ≡ request Name.Partitions (left (rest .entry)) ⌝ }
+{
+    let [rows, columns, cap] = numbers::<3>(rest)?;
+    Ok(Directive::Partitions { rows, columns, cap })
+}
+
+fn sets(rest: Words) -> Result<Directive, Expected>
+    ensures { λ r. ⌜ read-as request-of r ≡ request Name.Sets (left (rest .entry)) ⌝ }
+{
+    let [rows, columns] = numbers::<2>(rest)?;
+    Ok(Directive::Sets { rows, columns })
 }
 
 fn seed(rest: Words) -> Result<Directive, Expected>

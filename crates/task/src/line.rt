@@ -26,6 +26,15 @@ pub enum Directive {
         columns: u64,
         thresholds: [u64; 9],
     },
+    Partitions {
+        rows: u64,
+        columns: u64,
+        cap: u64,
+    },
+    Sets {
+        rows: u64,
+        columns: u64,
+    },
     Seed(u64),
     Recording(Vec<u8>),
     RecordingFile(Vec<u8>),

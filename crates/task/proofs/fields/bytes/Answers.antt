@@ -1,4 +1,4 @@
-use mathlib.Core.Path.{_≡_, ap}
+use mathlib.Core.Path.{ap}
 use Rattle.std.specs.Of.Vec.{vec-items}
 use Rattle.std.specs.Options.{mapped}
 use Rattle.std.specs.declared.result.Result.the-variants.{Ok, Err}

@@ -1,5 +1,3 @@
-use mathlib.Core.List.{reverse}
-use mathlib.Core.Path.{_≡_, sym, _∙_, ap, refl}
 use borrow.Author.Needs.{needs}
 use Rattle.std.proofs.shelf.Lists.{nil-from-length, reverse-reverse}
 use Rattle.task.specs.Text.{blank}

@@ -1,14 +1,12 @@
-use mathlib.Core.List.{List, []}
-use mathlib.Core.Path.{_≡_, sym, ap, _∙_}
-use Prim.Native.Nat.{ℕ, _<_}
+use mathlib.Core.Path.{sym, ap, _∙_}
 use native.Mathlib.Omega.{arith}
 use borrow.Author.Needs.{needs}
 use lib.ListN.{length, drop}
 use Rattle.std.proofs.shelf.Lists.{nil-from-length}
 use Rattle.std.proofs.shelf.Sums.{leading-le-length}
 use Rattle.std.proofs.shelf.Tests.{eqb-true, eqb-false}
-use Rattle.task.specs.Text.{left, solid, blank, past, words, first, after-word}
-use Rattle.task.proofs.Cuts.{lead, word-is, rest-is, no-word, a-word}
+use Rattle.task.specs.Text.{left, solid, words, first}
+use Rattle.task.proofs.Cuts.{word-is, rest-is, no-word, a-word}
 use Rattle.task.proofs.words.Words.next_word.Needs as need
 
 pub split-at-requires : need.split-at-requires
