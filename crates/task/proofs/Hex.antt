@@ -71,7 +71,7 @@ law-from w None e other = λ bytes small writes. elim writes [
 ]
 law-from w (Some bytes) e other = inl (pairs-write w bytes e)
 
-hex-law : (w : List ℕ) → Reads-hex w (hex-bytes w)
+pub hex-law : (w : List ℕ) → Reads-hex w (hex-bytes w)
 hex-law w =
     let same = sameBytes-decides w (codes "-") in
     elim (cases-bool (sameBytes w (codes "-"))) [
@@ -79,16 +79,6 @@ hex-law w =
       | inr e ↦ rw e (law-from w (hex-pairs w) refl (not-from-decides _ same e))
     ]
 
-pub law-of : (w : List ℕ) (o : Option (List ℕ)) → o ≡ hex-bytes w → Reads-hex w o
-law-of w o e = subst (Reads-hex w) (sym e) (hex-law w)
-
--- What the comparison with a dash says of the bytes.
-module _ (w : List ℕ) (r : Bool) (told : Matches (λ (a b : ℕ) (t : Bool). Decides t (a ≡ b)) w (codes "-") r) where
-  test : r ≡ sameBytes w (codes "-")
-  test = same-from-decides r _ (matches-decides w (codes "-") r told) (sameBytes-decides w (codes "-"))
-
-  pub at-dash : r ≡ true → hex-bytes w ≡ Some []
-  at-dash same = rw (← test, same)
-
-  pub at-digits : r ≡ false → hex-bytes w ≡ hex-pairs w
-  at-digits other = rw (← test, other)
+-- What the comparison with a dash says.
+pub dash-test : (w : List ℕ) (r : Bool) → Matches (λ (a b : ℕ) (t : Bool). Decides t (a ≡ b)) w (codes "-") r → r ≡ sameBytes w (codes "-")
+dash-test w r told = same-from-decides r _ (matches-decides w (codes "-") r told) (sameBytes-decides w (codes "-"))

