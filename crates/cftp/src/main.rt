@@ -17,13 +17,16 @@ usage: cftp [FILE]      carry out the task in FILE, or on standard input
 A task has one directive a line:
   spins ROWS COLUMNS T0 T1 T2 T3 T4 T5 T6 T7 T8
                         the rule: a spin grid with its nine thresholds
+  partitions ROWS COLUMNS CAP
+                        the rule: plane partitions with heights up to CAP
+  sets ROWS COLUMNS     the rule: independent sets
   seed N                the source: the counter generator with this seed
   recording HEX         the source: these bytes, eight a word
   recording-file PATH   the source: the bytes of a file
   trace T               move the bottom by the words of places T .. 1
 Empty lines and lines that begin with # are skipped. docs/TASKS.md has the whole of it.";
 
-// Why the program ends with status 1. What went wrong has been printed by then.
+// The program ends with status 1. What went wrong has been printed, unless printing failed.
 #[derive(Drop)]
 enum Ended {
     Failed,
@@ -67,7 +70,7 @@ fn perform<R: Read + Drop>(rt: &LibcRuntime, reader: BufReader<R>) -> io::Result
         Ok(()) => Ok(true),
         Err(trouble) => {
             let stopped = Stopped {
-                line: lines.number(),
+                line: lines.line_number(),
                 trouble,
             };
             eprintln!(rt, "{stopped}")?;

@@ -1,14 +1,14 @@
 -- What the ends of two runs say, and the other way round.
-use mathlib.Core.Bool.{Bool, true, false, cond}
+use mathlib.Core.Bool.{true, false}
 use mathlib.Core.List.{List}
 use mathlib.Core.Logic.{⊎-elim}
-use mathlib.Core.Path.{_≡_, refl, ap, sym, _∙_}
+use mathlib.Core.Path.{_≡_, refl, sym, _∙_}
 use Prim.Native.Nat.{ℕ}
 use native.Mathlib.Omega.{arith}
 use Rattle.std.proofs.shelf.Equals.{sameBytes-decides}
 use Rattle.std.proofs.shelf.Tests.{both-ways, cases-bool}
 use Rattle.std.specs.shelf.Text.{sameBytes}
-use Rattle.coupling.specs.Lead.{Ends, met-in, apart-at, ends-of}
+use Rattle.coupling.specs.Lead.{met-in, apart-at, ends-of}
 
 never-both : (a b c : List ℕ) → apart-at a b ≡ met-in c → ⊥
 never-both a b c e = let z : _≡_ {A = ℕ} 0 1 = cc in omega arith

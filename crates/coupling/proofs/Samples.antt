@@ -1,14 +1,14 @@
 -- Larger windows, and agreeing sources, give the same sample.
 use mathlib.Core.List.{List, [], _∷_, _++_}
 use mathlib.Core.Logic.{⊎-elim}
-use mathlib.Core.Path.{_≡_, sym, ap, subst, _∙_}
+use mathlib.Core.Path.{_≡_, sym, subst, _∙_}
 use Prim.Native.Nat.{ℕ, _≤_, _<_}
 use native.Mathlib.Omega.{arith}
 use Rattle.std.proofs.shelf.Tests.{cases-lt}
-use Rattle.lattice.specs.Kind.{Meaning, Lawful, Ordered, Bounded, Closed, Monotone}
+use Rattle.lattice.specs.Kind.{Meaning, Ordered, Bounded, Closed, Monotone}
 use Rattle.sources.specs.Sources.{Reading, Sound}
-use Rattle.coupling.specs.Ends.{Agreeing-sources-meet-alike, All-end-in, Larger-windows-keep-the-sample}
-use Rattle.coupling.specs.Lead.{Ends, Words, lead, met-in, outcome}
+use Rattle.coupling.specs.Ends.{Agreeing-sources-meet-alike, Older-words-change-nothing, Larger-windows-keep-the-sample}
+use Rattle.coupling.specs.Lead.{Words, lead, met-in, outcome}
 use Rattle.coupling.specs.Windows.{Agree, Can-fill, window-words}
 use Rattle.coupling.proofs.Filled.{fills-smaller, older-words, same-window, window-is-words}
 use Rattle.coupling.proofs.Sandwich.{lead-append, lead-lawful, meets-where-all-end}
@@ -26,7 +26,7 @@ same-state x y e = cc
 
 module _ (m : Meaning) (ordered : Ordered m) (bounded : Bounded m) (closed : Closed m) (monotone : Monotone m) where
   -- words in front of some that meet change nothing
-  older-change-nothing : (older newer : List ℕ) → Words (older ++ newer) → (y : List ℕ) → outcome m newer ≡ met-in y → outcome m (older ++ newer) ≡ met-in y
+  pub older-change-nothing : Older-words-change-nothing m
   older-change-nothing older newer all y met =
       let meets = meets-where-all-end m ordered bounded closed monotone in
       let together = meets newer (words-back older newer all) y .0 met in

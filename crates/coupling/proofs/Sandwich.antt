@@ -3,8 +3,8 @@ use mathlib.Core.List.{List, [], _∷_, _++_}
 use mathlib.Core.Path.{_≡_, refl, sym, ap, subst, _∙_}
 use Prim.Native.Nat.{ℕ}
 use Rattle.lattice.specs.Kind.{Meaning, Lawful, Ordered, Bounded, Closed, Monotone}
-use Rattle.coupling.specs.Ends.{All-end-in, Apart-where-some-differ, Ends-between, Meets-where-all-end, Some-end-apart}
-use Rattle.coupling.specs.Lead.{Words, lead, met-in, outcome}
+use Rattle.coupling.specs.Ends.{All-end-in, Apart-where-some-differ, Ends-between, Meets-where-all-end}
+use Rattle.coupling.specs.Lead.{Words, lead, met-in}
 use Rattle.coupling.proofs.Outcomes.{apart-ends, different-ends, equal-ends, met-ends}
 
 -- older words come first

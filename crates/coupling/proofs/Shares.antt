@@ -1,17 +1,16 @@
 -- Equal shares: a list that meets in a state leads every start there, and one that is apart leads at most all of them.
-use mathlib.Core.Bool.{Bool, true, false, cond}
+use mathlib.Core.Bool.{cond}
 use mathlib.Core.List.{List}
-use mathlib.Core.Path.{_≡_, refl, sym, ap, subst, _∙_}
+use mathlib.Core.Path.{_≡_, refl, ap, _∙_}
 use Prim.Native.Nat.{ℕ, _+_, _*_, _≤_}
-use native.Mathlib.Nat.{le-refl, mul-comm}
 use native.Mathlib.Omega.{arith}
 use lib.ListN.{length}
 use Rattle.std.proofs.shelf.Tests.{cond-both}
 use Rattle.std.specs.shelf.Text.{sameBytes}
 use Rattle.lattice.specs.Counts.{Exchanges, same-as}
-use Rattle.lattice.specs.Kind.{Bounded, Closed, Distinct, Lawful, Meaning, Monotone, Ordered}
+use Rattle.lattice.specs.Kind.{Bounded, Closed, Distinct, Meaning, Monotone, Ordered}
 use Rattle.coupling.specs.Lead.{Ends, Words, apart-at, lead, met-in, outcome}
-use Rattle.coupling.specs.Shares.{Equal-shares, is-apart, is-met-in, sum-lists}
+use Rattle.coupling.specs.Shares.{Equal-shares, is-apart, is-met-in}
 use Rattle.coupling.proofs.Sandwich.{meets-where-all-end}
 use Rattle.coupling.proofs.Stationary.{lists-to}
 use Rattle.coupling.proofs.Sums.{lists-add, lists-le, lists-over, lists-times, over, over-constant, over-le, over-same}
@@ -35,7 +34,7 @@ module _ (m : Meaning) (ordered : Ordered m) (bounded : Bounded m) (closed : Clo
 
 module _ (m : Meaning) (ordered : Ordered m) (bounded : Bounded m) (closed : Closed m) (monotone : Monotone m) (distinct : Distinct (m .states)) (exchanges : Exchanges m) where
   pub equal-shares : Equal-shares m
-  equal-shares n some few x h =
+  equal-shares n x h =
       let size = length (m .states) in
       let meets : List ℕ → ℕ = λ ws. cond (is-met-in x (outcome m ws)) 1 0 in
       let apart : List ℕ → ℕ = λ ws. cond (is-apart (outcome m ws)) 1 0 in

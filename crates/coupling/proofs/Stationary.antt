@@ -3,7 +3,7 @@
 use mathlib.Core.List.{List}
 use mathlib.Core.Path.{_≡_, sym, ap, _∙_}
 use Prim.Native.Nat.{ℕ, zero, suc, _*_, _^_}
-use native.Mathlib.Nat.{mul-comm, mul-one}
+use native.Mathlib.Nat.{mul-comm, mul-one, pow-suc}
 use Rattle.lattice.specs.Counts.{Exchanges, same-as, sum-below, words-between}
 use Rattle.lattice.specs.Kind.{Closed, Distinct, Lawful, Meaning}
 use Rattle.lattice.proofs.Halves.{same-counts, sum-constant, sum-same}
@@ -51,4 +51,5 @@ module _ (m : Meaning) (closed : Closed m) (distinct : Distinct (m .states)) (ex
   lists-to (suc n) x h =
       after-a-step (λ y. sum-lists n (λ ws. same-as (lead m ws y) x))
       ∙ ap (λ (k : ℕ). 2 ^ 64 * k) (lists-to n x h)
-      ∙ sym (sum-constant (2 ^ 64) (sum-lists n (λ ws. 1)))
+      ∙ mul-comm (2 ^ 64) ((2 ^ 64) ^ n)
+      ∙ sym (pow-suc (2 ^ 64) n)

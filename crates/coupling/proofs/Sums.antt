@@ -1,5 +1,5 @@
 -- Sums over numbers, lists of words and lists of states.
-use mathlib.Core.Bool.{Bool, true, false, cond}
+use mathlib.Core.Bool.{true, false}
 use mathlib.Core.List.{List, [], _∷_}
 use mathlib.Core.Logic.{_⊎_, inl, inr, ⊎-elim}
 use mathlib.Core.Path.{_≡_, refl, sym, ap, ap₂, subst, _∙_}
@@ -8,7 +8,7 @@ use native.Mathlib.Nat.{add-mul, mul-comm, mul-zero, suc-mul, zero-mul}
 use native.Mathlib.Omega.{arith}
 use lib.ListN.{length}
 use Rattle.std.proofs.shelf.Equals.{sameBytes-decides}
-use Rattle.std.proofs.shelf.Tests.{both-ways, cases-bool}
+use Rattle.std.proofs.shelf.Tests.{cases-bool}
 use Rattle.std.specs.shelf.Text.{sameBytes}
 use Rattle.lattice.specs.Counts.{same-as, sum-below}
 use Rattle.lattice.specs.Kind.{Distinct, Holds}

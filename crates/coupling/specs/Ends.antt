@@ -1,5 +1,5 @@
 -- Where all lawful starts end, and which windows answer alike.
-use mathlib.Core.List.{List}
+use mathlib.Core.List.{List, _++_}
 use mathlib.Core.Path.{_≡_}
 use Prim.Native.Nat.{ℕ, _≤_}
 use Rattle.lattice.specs.Kind.{Meaning, Lawful}
@@ -33,6 +33,11 @@ Apart-where-some-differ m =
     (ws : List ℕ) → Words ws →
     ((low high : List ℕ) → outcome m ws ≡ apart-at low high → Some-end-apart m ws)
     × (Some-end-apart m ws → outcome m ws ≡ apart-at (lead m ws (m .bottom)) (lead m ws (m .top)))
+
+-- Words that meet in a state do so whatever older words stand before them.
+abbrev pub Older-words-change-nothing : Meaning → Type 0
+Older-words-change-nothing m =
+    (older newer : List ℕ) → Words (older ++ newer) → (y : List ℕ) → outcome m newer ≡ met-in y → outcome m (older ++ newer) ≡ met-in y
 
 -- Once a window meets, every larger window of the draw that the source can fill meets in the same state.
 abbrev pub Larger-windows-keep-the-sample : Meaning → Reading → Type 0

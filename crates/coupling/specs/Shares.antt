@@ -23,7 +23,7 @@ is-apart (apart-at low high) = true
 
 -- All lists of n words; those that meet in x; those that are apart.
 abbrev pub all-lists : ℕ → ℕ
-all-lists n = sum-lists n (λ ws. 1)
+all-lists n = (2 ^ 64) ^ n
 
 abbrev pub lists-meeting-in : Meaning → ℕ → List ℕ → ℕ
 lists-meeting-in m n x = sum-lists n (λ ws. cond (is-met-in x (outcome m ws)) 1 0)
@@ -36,6 +36,6 @@ lists-apart m n = sum-lists n (λ ws. cond (is-apart (outcome m ws)) 1 0)
 -- lists that are apart, times that number.
 abbrev pub Equal-shares : Meaning → Type 0
 Equal-shares m =
-    (n : ℕ) → 1 ≤ n → n ≤ 2 ^ 20 → (x : List ℕ) → Lawful m x →
+    (n : ℕ) (x : List ℕ) → Lawful m x →
     (lists-meeting-in m n x * length (m .states) ≤ all-lists n)
     × (all-lists n ≤ lists-meeting-in m n x * length (m .states) + lists-apart m n * length (m .states))

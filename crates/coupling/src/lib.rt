@@ -1,6 +1,6 @@
 // Why coupling from the past is exact, for every kind that keeps its laws and every source that keeps its meaning. Each
 // function does nothing: its promise is the theorem, for the proofs of what calls it.
-ghost use Rattle.coupling.specs.Ends.{Agreeing-sources-meet-alike, Apart-where-some-differ, Ends-between, Larger-windows-keep-the-sample, Meets-where-all-end};
+ghost use Rattle.coupling.specs.Ends.{Agreeing-sources-meet-alike, Apart-where-some-differ, Ends-between, Larger-windows-keep-the-sample, Meets-where-all-end, Older-words-change-nothing};
 ghost use Rattle.coupling.specs.Shares.{Equal-shares};
 use lattice::even::Even;
 use lattice::kind::Kind;
@@ -18,7 +18,8 @@ pub fn meets_where_all_end<K: Kind>(rule: &K)
 }
 
 pub fn larger_windows_keep_the_sample<K: Kind, S: Source>(rule: &K, source: &S)
-    ensures { λ _. ⌜ Larger-windows-keep-the-sample (meaning (now (rule .entry))) (reading (now (source .entry))) ⌝ }
+    ensures older { λ _. ⌜ Older-words-change-nothing (meaning (now (rule .entry))) ⌝ }
+    ensures larger { λ _. ⌜ Larger-windows-keep-the-sample (meaning (now (rule .entry))) (reading (now (source .entry))) ⌝ }
 {
     source.sound();
 }

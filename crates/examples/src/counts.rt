@@ -45,7 +45,7 @@ fn lawful_lists<K: Kind>(rt: &LibcRuntime, rule: &K) -> Result<u32, Failed> {
     };
     let mut cells = vec![in rt.alloc(); 0u8; rule.cell_count() as usize]?;
     let mut count = 0u32;
-    // Every list of 16 cells or fewer comes up within so many turns.
+    // More turns than there are lists in any of these boxes.
     for _ in 0..1_000_000 {
         if rule.load(&mut state, cells.as_slice()).is_ok() {
             count = count.saturating_add(1);

@@ -4,7 +4,6 @@ use crate::say::FailedFromAlloc;
 use crate::say::FailedFromIo;
 use crate::say::FailedFromRefused;
 use crate::say::say;
-use lattice::fault::StateFault;
 use lattice::fault::StateFaultCause;
 use lattice::kind::Kind;
 use spins::rule::Spins;

@@ -5,7 +5,7 @@ use mathlib.Core.Bool.{Bool, true, false, cond}
 use mathlib.Core.List.{List}
 use mathlib.Core.Logic.{_⊎_, ⊎-elim}
 use mathlib.Core.Path.{_≡_, refl, sym, ap, ap₂, subst, _∙_}
-use Prim.Native.Nat.{ℕ, zero, suc, _+_, _-_, _*_, _/_, _%_, _^_, _<_, _≤_}
+use Prim.Native.Nat.{ℕ, zero, suc, _+_, _-_, _*_, _/_, _^_, _<_, _≤_}
 use native.Mathlib.Nat.{add-assoc, mul-comm, mul-lt-mul-of-pos-right, suc-mul, zero-mul, add-zero, add-suc}
 use native.Mathlib.Omega.{arith}
 use lib.Dec.{ltb}
@@ -13,7 +13,7 @@ use Rattle.std.proofs.shelf.Bits.{div-below, div-mul-add, mod-mul-add}
 use Rattle.std.proofs.shelf.Equals.{sameBytes-decides}
 use Rattle.std.proofs.shelf.Tests.{cases-bool, lt-ltb, le-ltb, both-ways}
 use Rattle.std.specs.shelf.Text.{sameBytes}
-use Rattle.lattice.specs.Counts.{sum-below, same-as, words-between, Exchanges, two-way}
+use Rattle.lattice.specs.Counts.{sum-below, same-as, Exchanges, two-way}
 use Rattle.lattice.specs.Kind.{Meaning, Lawful}
 use Rattle.lattice.specs.Words.{site, level}
 

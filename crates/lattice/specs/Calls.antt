@@ -6,7 +6,7 @@ use Prim.Native.Nat.{ℕ}
 use lib.Dec.{leb, ltb}
 use lib.ListN.{length, getD, take}
 use Rattle.std.specs.Orderings.{Decides, When}
-use Rattle.refusal.specs.Refusals.{Answer, Refusal, given, refused, provided}
+use Rattle.refusal.specs.Refusals.{Answer, given, refused, provided}
 use Rattle.lattice.specs.Faults.{state-refusal}
 use Rattle.lattice.specs.Grid.{Extent, agree, cell-count}
 use Rattle.lattice.specs.Kind.{Meaning, Lawful, First-bad}

@@ -1,5 +1,5 @@
 -- The number of each refusal of a rule or a state, with the values that come with it.
-use mathlib.Core.List.{List, [], _∷_}
+use mathlib.Core.List.{[], _∷_}
 use Rattle.refusal.specs.Refusals.{Refusal, numbered, no-memory}
 use Rattle.lattice.specs.declared.fault.ShapeFault.{ShapeFault}
 use Rattle.lattice.specs.declared.fault.ShapeFault.the-variants.{Side, Cap}

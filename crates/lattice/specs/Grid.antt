@@ -1,6 +1,6 @@
 -- A grid of cells: its sides and cap, and which cells lie beside which.
 -- The cell in row r and column c has the number r * columns + c, each counted from 0.
-use mathlib.Core.Bool.{Bool, true, false, cond, _&&_}
+use mathlib.Core.Bool.{Bool, cond, _&&_}
 use mathlib.Core.List.{List, [], _∷_}
 use Prim.Native.Nat.{ℕ, _+_, _*_, _/_, _%_, _≤_}
 use lib.Dec.{eqb, ltb}

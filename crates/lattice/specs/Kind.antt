@@ -29,7 +29,7 @@ Distinct (x ∷ xs) = (Holds xs x → ⊥) × Distinct xs
 abbrev pub Lawful : Meaning → List ℕ → Type 0
 Lawful m x = Holds (m .states) x
 
--- The four laws of every kind.
+-- The laws that exact sampling rests on: order, bounds, closure and monotone steps.
 pub record Ordered (m : Meaning) : Type 0 where
   pub reflexive : (x : List ℕ) → Lawful m x → m .below x x
   pub antisymmetric : (x y : List ℕ) → Lawful m x → Lawful m y → m .below x y → m .below y x → x ≡ y
@@ -61,7 +61,7 @@ pub record First-bad (m : Meaning) (cells : List ℕ) (i : ℕ) : Type 0 where
   pub before : Begins m (take i cells)
   pub up-to : Begins m (take (i + 1) cells) → ⊥
 
--- The codes and widths that a record has room for.
+-- The range of a kind's code, and of the bits that one of its cells takes.
 pub record Coded (code width : ℕ) : Type 0 where
   pub code-from : 1 ≤ code
   pub code-to : code ≤ 63

@@ -1,4 +1,4 @@
--- All lists of a length whose values reach up to a cap.
+-- All lists of a length with values from 0 up to a bound.
 use mathlib.Core.List.{List, [], _∷_, map}
 use Prim.Native.Nat.{ℕ, zero, suc}
 use Rattle.std.specs.Iters.{counting}

@@ -3,7 +3,7 @@ use mathlib.Core.Bool.{Bool, _&&_}
 use Prim.Native.Nat.{ℕ}
 use lib.Dec.{leb}
 use Rattle.lattice.specs.Grid.{Extent}
-use Rattle.refusal.specs.Refusals.{Answer, Refusal, given, provided}
+use Rattle.refusal.specs.Refusals.{Answer, given, provided}
 use Rattle.lattice.specs.Faults.{shape-refusal}
 use Rattle.lattice.specs.declared.fault.ShapeFault.the-variants.{Side, Cap}
 use Rattle.lattice.specs.declared.shape.Shape.{Shape}

@@ -15,10 +15,10 @@ use std::alloc::Global;
 pub trait Kind {
     type State: Drop;
 
-    // The kind's number in a record, 1 to 63.
+    // The kind's number, 1 to 63.
     const CODE: u8;
 
-    // The bits that a record gives to a cell, 1 to 8.
+    // How many bits the value of a cell takes, 1 to 8.
     const WIDTH: u8;
 
     ghost meaning: { Self → Meaning };

@@ -3,7 +3,7 @@ ghost use mathlib.Core.Path.{_≡_};
 ghost use Prim.Native.Nat.{_*_, _/_, _^_, _<_};
 ghost use Rattle.lattice.specs.Words.{site, level};
 
-// Half a word's values, 2^32.
+// How many values half a word has.
 const HALF: u64 = 1 << 32;
 
 // The cell that the word chooses among `cells`, and its level.

@@ -24,8 +24,7 @@ abbrev pub answer : {A B E : Type 0} → (A → B) → (E → Refusal) → Resul
 answer f why (Ok x) = given (f x)
 answer f why (Err e) = refused (why e)
 
--- The numbers of a refusal in a row: its own, then its values. A refusal that holds another whole has the other's row
--- at the end of its values.
+-- The numbers of a refusal in a row: its own, then its values.
 abbrev pub row : Refusal → List ℕ
 row (numbered n values) = n ∷ values
 row no-memory = []

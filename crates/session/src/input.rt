@@ -1,4 +1,5 @@
 // The directives of a task, one after another, with the number of the line that is being read.
+ghost use mathlib.Core.Path.{_≡_};
 use crate::trouble::Trouble;
 use crate::trouble::TroubleFromAlloc;
 use crate::trouble::TroubleFromIo;
@@ -15,22 +16,27 @@ pub struct Lines<R: Drop> {
     heap: Global,
     reader: BufReader<R>,
     line: Vec<u8>,
-    number: u64,
+    // How many lines were read.
+    count: u64,
 }
 
 impl<R: Read + Drop> Lines<R> {
-    pub fn new(heap: Global, reader: BufReader<R>) -> Lines<R> {
+    pub fn new(heap: Global, reader: BufReader<R>) -> Lines<R>
+        ensures { λ r. ⌜ r .count ≡ 0 ⌝ }
+    {
         Lines {
             heap,
             reader,
             line: Vec::new(heap),
-            number: 0,
+            count: 0,
         }
     }
 
     // The number of the line that was read last, counted from 1.
-    pub fn number(&self) -> u64 {
-        self.number
+    pub fn line_number(&self) -> u64
+        ensures { λ r. ⌜ r ≡ now (self .entry) .count ⌝ }
+    {
+        self.count
     }
 
     // The next directive, or none at the end of the text.
@@ -57,7 +63,8 @@ impl<R: Read + Drop> Lines<R> {
         if self.line.last().copied() == Some(b'\n') {
             let _ = self.line.pop();
         }
-        self.number = self.number.saturating_add(1);
+        let count = &mut self.count;
+        *count = count.saturating_add(1);
         Ok(true)
     }
 }

@@ -1,10 +1,8 @@
 // One move of a state by a word, with what the word chose.
 ghost use mathlib.Core.Path.{_≡_};
-ghost use Rattle.lattice.specs.Calls.{owner-answer};
 ghost use Rattle.lattice.specs.Faults.{state-refusal};
-ghost use Rattle.lattice.specs.Grid.{agree, cell-count};
 ghost use Rattle.lattice.specs.Words.{level, site};
-ghost use Rattle.refusal.specs.Refusals.{answer, left-by, provided, given};
+ghost use Rattle.refusal.specs.Refusals.{answer, left-by};
 ghost use Rattle.session.specs.Moves.{move-answer, chosen};
 use lattice::fault::StateFault;
 use lattice::kind::Kind;

@@ -11,7 +11,6 @@ use crate::trouble::TroubleFromIo;
 use independent_sets::rule::IndependentSets;
 use independent_sets::rule::IndependentSetsKind;
 use lattice::fault::ShapeFaultCause;
-use lattice::fault::StateFault;
 use lattice::fault::StateFaultCause;
 use lattice::kind::Kind;
 use partitions::rule::Partitions;

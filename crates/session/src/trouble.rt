@@ -1,4 +1,6 @@
 // Why a task stops before its end, and how that is said.
+ghost use mathlib.Core.Path.{_≡_};
+ghost use Rattle.session.specs.declared.trouble.Trouble.the-variants.{Failed, Memory};
 use std::alloc::AllocError;
 use std::alloc::Refused;
 use std::fmt;
@@ -20,18 +22,24 @@ pub enum Trouble {
 }
 
 pub impl From<io::Error> for Trouble as TroubleFromIo {
+    ghost converts = { λ e r. r ≡ Failed e };
+
     fn from(error: io::Error) -> Trouble {
         Trouble::Failed(error)
     }
 }
 
 pub impl From<AllocError> for Trouble as TroubleFromAlloc {
+    ghost converts = { λ _ r. r ≡ Memory };
+
     fn from(_error: AllocError) -> Trouble {
         Trouble::Memory
     }
 }
 
 pub impl<T: Drop> From<Refused<T>> for Trouble as TroubleFromRefused {
+    ghost converts = { λ _ r. r ≡ Memory };
+
     fn from(_error: Refused<T>) -> Trouble {
         Trouble::Memory
     }

@@ -1,5 +1,5 @@
 -- The number of each refusal of a source, with the values that come with it.
-use mathlib.Core.List.{List, [], _∷_}
+use mathlib.Core.List.{[], _∷_}
 use Rattle.refusal.specs.Refusals.{Refusal, numbered}
 use Rattle.sources.specs.declared.fault.NoWord.{NoWord}
 use Rattle.sources.specs.declared.fault.RecordingFault.{RecordingFault}

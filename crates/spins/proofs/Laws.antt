@@ -1,27 +1,26 @@
 -- Spin grids keep the laws of a kind, whatever their sides and their table.
-use mathlib.Core.Bool.{cond, true, false}
+use mathlib.Core.Bool.{cond}
 use mathlib.Core.List.{List, [], _∷_, _++_}
 use mathlib.Core.Logic.{⊎-elim}
-use mathlib.Core.Path.{_≡_, refl, sym, ap, _∙_}
+use mathlib.Core.Path.{_≡_, refl, sym, _∙_}
 use Prim.Native.Nat.{ℕ, zero, suc, _+_, _-_, _^_, _<_, _≤_}
 use native.Mathlib.Nat.{le-refl, le-trans}
 use native.Mathlib.Omega.{arith}
 use lib.Dec.{eqb, ltb}
-use lib.ListN.{length, getD, set, replicate, take}
-use Rattle.std.specs.shelf.Lists.{All}
+use lib.ListN.{length, getD, replicate, take}
 use Rattle.std.proofs.shelf.Elements.{all-weaker}
-use Rattle.std.proofs.shelf.Lists.{length-append, length-set, length-replicate, length-take-le, take-at}
+use Rattle.std.proofs.shelf.Lists.{length-set, length-replicate, take-at}
 use Rattle.std.proofs.shelf.Sums.{sumBy-cons, countBy-le-length}
-use Rattle.std.proofs.shelf.Tests.{cases-lt, cases-eq, eq-eqb, ne-eqb, cond-both, ltb-true, ltb-false, lt-ltb}
+use Rattle.std.proofs.shelf.Tests.{cases-lt, cases-eq, eq-eqb, ne-eqb, cond-both, ltb-true, lt-ltb}
 use Rattle.lattice.specs.Grid.{Extent, cell-count, neighbours}
-use Rattle.lattice.specs.Kind.{Meaning, Lawful, First-bad, Ordered, Bounded, Closed, Monotone, Distinct, Sized}
+use Rattle.lattice.specs.Kind.{Lawful, First-bad, Ordered, Bounded, Closed, Monotone, Distinct, Sized}
 use Rattle.lattice.specs.Lists.{value-lists}
 use Rattle.lattice.specs.Orders.{cellwise}
 use Rattle.lattice.specs.Words.{site, level}
 use Rattle.lattice.proofs.Cells.{append-upto, begins-same, filled-up, take-upto, replicate-upto, set-upto, all-upto, upto-all, cellwise-set, cellwise-antisymmetric, below-replicate, above-zeros}
 use Rattle.lattice.proofs.Listed.{listed, listed-parts, listed-once}
 use Rattle.lattice.proofs.Neighbours.{length-neighbours}
-use Rattle.spins.specs.Spin.{holding, threshold-index, new-spin, spins-meaning}
+use Rattle.spins.specs.Spin.{holding, threshold-index, spins-meaning}
 use Rattle.spins.specs.Table.{Rises}
 
 -- a lower spin counts no more as up, and no less as down

@@ -4,10 +4,10 @@ ghost use Rattle.spins.specs.Table.{Rises};
 mod methods;
 
 // A threshold for each index.
-pub type Nine = [u64; 9];
+pub type NineThresholds = [u64; 9];
 
 #[derive(Clone, Copy)]
 pub struct Thresholds {
-    values: Nine,
+    values: NineThresholds,
     ghost rises: { Rises values 9 },
 }

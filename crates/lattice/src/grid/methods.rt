@@ -1,6 +1,5 @@
 // Making, reading and changing the cells of a grid; the answers that every kind on a grid gives alike.
 ghost use mathlib.Core.Path.{_≡_};
-ghost use Prim.Native.Nat.{ℕ};
 ghost use lib.ListN.{getD, length, replicate, set, take};
 ghost use lib.Dec.{leb};
 ghost use mathlib.Core.Bool.{cond};

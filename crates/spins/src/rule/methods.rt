@@ -9,7 +9,7 @@ use super::Spins;
 use crate::fault::SpinsFault;
 use crate::fault::SpinsFaultFromShape;
 use crate::fault::SpinsFaultFromTable;
-use crate::thresholds::Nine;
+use crate::thresholds::NineThresholds;
 use crate::thresholds::Thresholds;
 use lattice::fault::ShapeFault;
 use lattice::shape::Shape;
@@ -36,7 +36,7 @@ impl Spins {
         rows: u64,
         columns: u64,
         cap: u64,
-        values: Nine,
+        values: NineThresholds,
     ) -> Result<Spins, SpinsFault>
         ensures { λ r. ⌜ Rule-answers (shape-answer rows columns «cap» 1) values (answer rule-parts spins-refusal r) ⌝ }
     {

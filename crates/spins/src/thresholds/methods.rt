@@ -4,7 +4,7 @@ ghost use lib.ListN.{getD};
 ghost use Rattle.refusal.specs.Refusals.{answer};
 ghost use Rattle.spins.specs.Faults.{Table-answers, table-refusal};
 ghost use Rattle.spins.specs.Spins.{table-of};
-use super::Nine;
+use super::NineThresholds;
 use super::Thresholds;
 use crate::fault::TableFault;
 
@@ -12,7 +12,7 @@ const HIGHEST: u64 = 1 << 32;
 
 impl Thresholds {
     // The table of these thresholds, tested index by index.
-    pub fn new(values: Nine) -> Result<Thresholds, TableFault>
+    pub fn new(values: NineThresholds) -> Result<Thresholds, TableFault>
         ensures { λ r. ⌜ Table-answers values (answer table-of table-refusal r) ⌝ }
     {
         for index in 0..9 {

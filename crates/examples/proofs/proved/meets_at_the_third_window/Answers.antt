@@ -4,4 +4,4 @@ use Rattle.examples.proofs.proved.meets_at_the_third_window.Needs as need
 
 pub returns : need.returns
 unfolding window-words
-returns c = (refl, refl, refl)
+returns c = (refl, refl, refl, refl)

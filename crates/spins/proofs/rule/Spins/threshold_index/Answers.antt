@@ -1,9 +1,8 @@
 use mathlib.Core.Path.{_≡_, sym, _∙_}
 use Prim.Native.Nat.{_≤_}
 use native.Mathlib.Omega.{arith}
-use lib.ListN.{getD, take}
+use lib.ListN.{getD}
 use Rattle.std.proofs.shelf.Tests.{eqb-true, eqb-false}
-use Rattle.lattice.specs.Grid.{directions}
 use Rattle.spins.specs.Spins.{spins-extent, spin-cells}
 use Rattle.spins.proofs.Sums.{holding-none, holding-yes, holding-no}
 use Rattle.spins.proofs.rule.Spins.threshold_index.Needs as need

@@ -1,4 +1,3 @@
-use borrow.Author.Needs.{needs}
 use native.Mathlib.Omega.{arith}
 use Rattle.lattice.proofs.Cells.{replicate-upto}
 use Rattle.spins.proofs.state.SpinGrid.new.Needs as need

@@ -1,5 +1,4 @@
 use borrow.Author.Needs.{needs}
-use native.Mathlib.Omega.{arith}
 use Rattle.lattice.proofs.Cells.{set-upto}
 use Rattle.spins.proofs.state.SpinGrid.turn.Needs as need
 

@@ -1,4 +1,4 @@
-use mathlib.Core.Path.{_≡_, ap, sym, _∙_, subst}
+use mathlib.Core.Path.{ap, sym, _∙_, subst}
 use Rattle.lattice.specs.Grid.{Extent, cell-count}
 use Rattle.lattice.specs.Kind.{Lawful}
 use Rattle.spins.specs.Spin.{spins-meaning}
