@@ -28,10 +28,10 @@ module _ (low high : List ℕ) where
   met-ends y e =
       ⊎-elim
       (λ (t : sameBytes low high ≡ true).
-        let same = sameBytes-decides low high .0 t in
-        let met : met-in low ≡ met-in y = rw t at e in
-        let first : low ≡ y = cc in
-        (first, sym same ∙ first))
+      let same = sameBytes-decides low high .0 t in
+      let met : met-in low ≡ met-in y = rw t at e in
+      let first : low ≡ y = cc in
+      (first, sym same ∙ first))
       (λ (f : sameBytes low high ≡ false). absurd (never-both low high y (rw f at e)))
       (cases-bool (sameBytes low high))
 
@@ -40,8 +40,8 @@ module _ (low high : List ℕ) where
       ⊎-elim
       (λ (t : sameBytes low high ≡ true). absurd (never-both a b low (sym (rw t at e))))
       (λ (f : sameBytes low high ≡ false).
-        let apart : apart-at low high ≡ apart-at a b = rw f at e in
-        let first : low ≡ a = cc in
-        let second : high ≡ b = cc in
-        (λ same. both-ways (sameBytes low high) f (sameBytes-decides low high .1 same), first, second))
+      let apart : apart-at low high ≡ apart-at a b = rw f at e in
+      let first : low ≡ a = cc in
+      let second : high ≡ b = cc in
+      (λ same. both-ways (sameBytes low high) f (sameBytes-decides low high .1 same), first, second))
       (cases-bool (sameBytes low high))

@@ -23,9 +23,10 @@ module _ (m : Meaning) (ordered : Ordered m) (bounded : Bounded m) (closed : Clo
       lead-monotone ws (all .1) (m .step w x) (m .step w y) (closed w (all .0) x hx) (closed w (all .0) y hy) (monotone w (all .0) x y hx hy below)
 
   pub ends-between : Ends-between m
-  ends-between ws all x h =
-      (lead-monotone ws all (m .bottom) x (bounded .bottom-lawful) h (bounded .above-bottom x h),
-        lead-monotone ws all x (m .top) h (bounded .top-lawful) (bounded .below-top x h))
+  ends-between ws all x h = (
+    lead-monotone ws all (m .bottom) x (bounded .bottom-lawful) h (bounded .above-bottom x h),
+    lead-monotone ws all x (m .top) h (bounded .top-lawful) (bounded .below-top x h),
+  )
 
   -- where the two ends are one state, every lawful start ends there
   all-end-together : (ws : List ℕ) → Words ws → (y : List ℕ) → lead m ws (m .bottom) ≡ y → lead m ws (m .top) ≡ y → All-end-in m ws y
@@ -38,18 +39,20 @@ module _ (m : Meaning) (ordered : Ordered m) (bounded : Bounded m) (closed : Clo
       (subst (λ (z : List ℕ). m .below z (lead m ws x)) low (between .0))
 
   pub meets-where-all-end : Meets-where-all-end m
-  meets-where-all-end ws all y =
-      (λ met. let ends = met-ends (lead m ws (m .bottom)) (lead m ws (m .top)) y met in all-end-together ws all y (ends .0) (ends .1),
-        λ together.
-          let low = together (m .bottom) (bounded .bottom-lawful) in
-          let high = together (m .top) (bounded .top-lawful) in
-          equal-ends (lead m ws (m .bottom)) (lead m ws (m .top)) (low ∙ sym high) ∙ ap met-in low)
+  meets-where-all-end ws all y = (
+    λ met. let ends = met-ends (lead m ws (m .bottom)) (lead m ws (m .top)) y met in all-end-together ws all y (ends .0) (ends .1),
+    λ together.
+        let low = together (m .bottom) (bounded .bottom-lawful) in
+        let high = together (m .top) (bounded .top-lawful) in
+        equal-ends (lead m ws (m .bottom)) (lead m ws (m .top)) (low ∙ sym high) ∙ ap met-in low,
+  )
 
   pub apart-where-some-differ : Apart-where-some-differ m
-  apart-where-some-differ ws all =
-      (λ low high apart. (m .bottom, m .top, bounded .bottom-lawful, bounded .top-lawful, apart-ends (lead m ws (m .bottom)) (lead m ws (m .top)) low high apart .0),
-        λ some.
-          different-ends (lead m ws (m .bottom)) (lead m ws (m .top))
-          (λ same.
-            let together = all-end-together ws all (lead m ws (m .top)) same refl in
-            some .4 (together (some .0) (some .2) ∙ sym (together (some .1) (some .3)))))
+  apart-where-some-differ ws all = (
+    λ low high apart. (m .bottom, m .top, bounded .bottom-lawful, bounded .top-lawful, apart-ends (lead m ws (m .bottom)) (lead m ws (m .top)) low high apart .0),
+    λ some.
+        different-ends (lead m ws (m .bottom)) (lead m ws (m .top))
+        (λ same.
+        let together = all-end-together ws all (lead m ws (m .top)) same refl in
+        some .4 (together (some .0) (some .2) ∙ sym (together (some .1) (some .3)))),
+  )

@@ -8,14 +8,12 @@ use sources::source::Source;
 
 pub fn ends_lie_between<K: Kind>(rule: &K)
     ensures { λ _. ⌜ Ends-between (meaning (now (rule .entry))) ⌝ }
-{
-}
+{}
 
 pub fn meets_where_all_end<K: Kind>(rule: &K)
     ensures met { λ _. ⌜ Meets-where-all-end (meaning (now (rule .entry))) ⌝ }
     ensures apart { λ _. ⌜ Apart-where-some-differ (meaning (now (rule .entry))) ⌝ }
-{
-}
+{}
 
 pub fn larger_windows_keep_the_sample<K: Kind, S: Source>(rule: &K, source: &S)
     ensures older { λ _. ⌜ Older-words-change-nothing (meaning (now (rule .entry))) ⌝ }

@@ -34,5 +34,4 @@ pub fn frozen_spins() -> Result<Spins, SpinsFault>
 // where they are at time zero. Does nothing; its promise is the example.
 pub fn meets_at_the_third_window()
     ensures { λ _. ⌜ Meets-at-the-third ⌝ }
-{
-}
+{}

@@ -36,7 +36,11 @@ fn caps(rt: &LibcRuntime) -> Result<(), Failed> {
     say(rt, "partitions with cap 255", Partitions::new(32, 32, 255))?;
     say(rt, "partitions with cap 256", Partitions::new(32, 32, 256))?;
     say(rt, "partitions with cap 0", Partitions::new(32, 32, 0))?;
-    say(rt, "partitions 33 by 1 with cap 256", Partitions::new(33, 1, 256))?;
+    say(
+        rt,
+        "partitions 33 by 1 with cap 256",
+        Partitions::new(33, 1, 256),
+    )?;
     say(rt, "sets with cap 1", IndependentSets::new(32, 32, 1))?;
     say(rt, "sets with cap 2", IndependentSets::new(32, 32, 2))
 }

@@ -28,7 +28,10 @@ fn recordings(rt: &LibcRuntime) -> Result<(), Failed> {
     let zeros = vec![in rt.alloc(); 0u8; 8_388_616]?;
     recording(rt, "recording of 8388608 bytes", &zeros[0..8_388_608])?;
     recording(rt, "recording of 8388616 bytes", &zeros[0..8_388_616])?;
-    recorded_words(rt, b"\x00\x00\x00\x00\x00\x00\x01\x02\xff\x00\x00\x00\x00\x00\x00\x00")
+    recorded_words(
+        rt,
+        b"\x00\x00\x00\x00\x00\x00\x01\x02\xff\x00\x00\x00\x00\x00\x00\x00",
+    )
 }
 
 fn recording(rt: &LibcRuntime, what: &str, bytes: &[u8]) -> Result<(), Failed> {
@@ -53,7 +56,11 @@ fn generator(rt: &LibcRuntime) -> Result<(), Failed> {
     for place in 0..4 {
         word(rt, "the generator", &counter, place)?;
     }
-    say(rt, "place 1099511627776 of the generator", counter.word(1 << 40))?;
+    say(
+        rt,
+        "place 1099511627776 of the generator",
+        counter.word(1 << 40),
+    )?;
     say(
         rt,
         "place 1099511627777 of the generator",

@@ -4,7 +4,6 @@ ghost use lib.ListN.{getD};
 ghost use Rattle.lattice.specs.Grids.{grid-cells};
 use lattice::grid::Grid;
 
-
 #[derive(Drop)]
 pub struct SpinGrid {
     pub(crate) grid: Grid,

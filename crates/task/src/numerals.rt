@@ -49,8 +49,7 @@ pub fn hex_bytes(heap: Global, word: &[u8]) -> Result<Option<Vec<u8>>, AllocErro
 // Does nothing: its promise, that bytes read from hex are those that the word writes, is for the proof of what calls it.
 fn hex_reads_back(word: &[u8])
     ensures { λ _. ⌜ Reads-hex (now (word .entry)) (hex-bytes (now (word .entry))) ⌝ }
-{
-}
+{}
 
 fn is_dash(word: &[u8]) -> bool
     ensures { λ r. ⌜ r ≡ sameBytes (now (word .entry)) (codes "-") ⌝ }

@@ -44,8 +44,7 @@ impl<'a> Words<'a> {
 // Does nothing: its promise is the law of the words of a line, for the proof of what calls it.
 fn words_are_spaced(line: &[u8])
     ensures { λ _. ⌜ Spaced (now (line .entry)) (words (now (line .entry))) ⌝ }
-{
-}
+{}
 
 // The first word, and what stands behind it.
 fn cut_word(text: &[u8]) -> (Option<&[u8]>, &[u8])

@@ -29,7 +29,10 @@ fn answers(rt: &LibcRuntime, task: &[u8]) -> io::Result<Vec<u8>> {
     let mut out = Vec::new(rt.alloc());
     let mut lines = Lines::new(rt.alloc(), BufReader::new(task));
     if let Err(trouble) = carry_out(rt, &mut lines, &mut out) {
-        let stopped = Stopped { line: lines.line_number(), trouble };
+        let stopped = Stopped {
+            line: lines.line_number(),
+            trouble,
+        };
         writeln!(out, "{stopped}")?;
     }
     Ok(out)

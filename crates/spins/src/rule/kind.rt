@@ -9,6 +9,7 @@ ghost use Rattle.lattice.specs.Shapes.{extent-of};
 ghost use Rattle.spins.specs.Spin.{spins-meaning, threshold-index};
 ghost use Rattle.spins.specs.Spins.{spin-cells, spin-extent, spins-extent, spins-table};
 ghost use Rattle.std.specs.Vec.{made};
+use super::Spins;
 use crate::state::SpinGrid;
 use lattice::fault::StateFault;
 use lattice::grid::Grid;
@@ -18,7 +19,6 @@ use lattice::shape::Shape;
 use lattice::words::split;
 use std::alloc::AllocError;
 use std::alloc::Global;
-use super::Spins;
 
 impl SpinGrid {
     // All spins down.

@@ -1,0 +1,5 @@
+pub mod Apart
+pub mod Beside
+pub mod Checkerboards
+pub mod Laws
+pub mod Members
