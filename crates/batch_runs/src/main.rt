@@ -1,5 +1,7 @@
 // Batches as a program calls them: draws that meet, stay apart or are refused, the limits of stretches, windows and draws,
 // and foreign states. The file stdout has the answers that are expected.
+#![tactic(auto)]
+
 mod bench;
 mod ends;
 

@@ -1,4 +1,6 @@
 // The program: finds the task, has it carried out, and says how that ended.
+#![tactic(auto)]
+
 use session::input::Lines;
 use session::progress::Progress;
 use session::stages::carry_out_showing;

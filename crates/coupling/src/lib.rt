@@ -1,5 +1,7 @@
 // Why coupling from the past is exact, for every kind that keeps its laws and every source that keeps its meaning. Each
 // function does nothing: its promise is the theorem, for the proofs of what calls it.
+#![tactic(auto)]
+
 ghost use Rattle.coupling.specs.Ends.{AgreeingSourcesMeetAlike, ApartWhereSomeDiffer, EndsBetween, LargerWindowsKeepTheSample, MeetsWhereAllEnd, OlderWordsChangeNothing};
 ghost use Rattle.coupling.specs.Shares.{EqualShares};
 

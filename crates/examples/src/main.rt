@@ -1,4 +1,6 @@
 // Worked examples: what the calls answer at and past their limits. The file stdout has the answers that are expected.
+#![tactic(auto)]
+
 mod counts;
 mod proved;
 mod rules;

@@ -1,5 +1,7 @@
 // What every kind of state and every engine shares: the split of a word, grids and their neighbours, refusals, and the
 // interface of a kind with its laws. It knows no kind in particular.
+#![tactic(auto)]
+
 pub mod even;
 pub mod fault;
 pub mod grid;

@@ -1,4 +1,6 @@
 // Refusals: every error is a type of its own, and this interface gives its number and values.
+#![tactic(auto)]
+
 ghost use Rattle.std.specs.Prelude.{◌≡◌, ◌++◌, is_ok, if◌then◌else◌};
 ghost use Rattle.refusal.specs.Refusals.{Refusal, row};
 

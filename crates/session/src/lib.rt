@@ -1,4 +1,6 @@
 // Carries out a task: takes its directives in order, calls the libraries, and writes the answers to any output.
+#![tactic(auto)]
+
 mod batches;
 mod draw_lines;
 mod drawable;

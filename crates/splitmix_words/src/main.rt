@@ -1,5 +1,7 @@
 // Compares the counter generator with the words that Java's SplittableRandom printed. Each line of the file has a seed,
 // a place and the word there; tools/splitmix/Words.java makes such a file.
+#![tactic(auto)]
+
 use sources::counter::Counter;
 use sources::source::Source;
 use std::alloc::{AllocError, Global};

@@ -1,5 +1,7 @@
 // Carries out each task of data/ that the file `list` names, NAME.task, and compares what it answers with NAME.out.
 // A task that stops early has the message as its last line.
+#![tactic(auto)]
+
 use session::input::Lines;
 use session::stages::carry_out;
 use session::trouble::Stopped;
