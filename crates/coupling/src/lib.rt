@@ -10,30 +10,30 @@ use lattice::kind::Kind;
 use sources::source::Source;
 
 pub fn ends_lie_between<K: Kind>(rule: &K)
-    ensures { EndsBetween (meaning rule.now) }
+    ensures { EndsBetween (K.meaning rule.now) }
 {}
 
 pub fn meets_where_all_end<K: Kind>(rule: &K)
-    ensures met { MeetsWhereAllEnd (meaning rule.now) }
-    ensures apart { ApartWhereSomeDiffer (meaning rule.now) }
+    ensures met { MeetsWhereAllEnd (K.meaning rule.now) }
+    ensures apart { ApartWhereSomeDiffer (K.meaning rule.now) }
 {}
 
 pub fn larger_windows_keep_the_sample<K: Kind, S: Source>(rule: &K, source: &S)
-    ensures older { OlderWordsChangeNothing (meaning rule.now) }
-    ensures larger { LargerWindowsKeepTheSample (meaning rule.now) (reading source.now) }
+    ensures older { OlderWordsChangeNothing (K.meaning rule.now) }
+    ensures larger { LargerWindowsKeepTheSample (K.meaning rule.now) (S.reading source.now) }
 {
     source.sound();
 }
 
 pub fn agreeing_sources_meet_alike<K: Kind, S: Source, T: Source>(rule: &K, first: &S, second: &T)
-    ensures { AgreeingSourcesMeetAlike (meaning rule.now) (S.Source.reading first.now) (T.Source.reading second.now) }
+    ensures { AgreeingSourcesMeetAlike (K.meaning rule.now) (S.reading first.now) (T.reading second.now) }
 {
     first.sound();
     second.sound();
 }
 
 pub fn shares_are_equal<E: Even>(rule: &E)
-    ensures { EqualShares (E.Kind.meaning rule.now) }
+    ensures { EqualShares (E.meaning rule.now) }
 {
     rule.exchanges();
 }

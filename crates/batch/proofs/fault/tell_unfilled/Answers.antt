@@ -12,7 +12,7 @@ added_twice told longer old more rest last first = last ∙ ap (λ (l : List ℕ
 
 pub returns-in-Err : goal.returns-in-Err
 returns-in-Err g c =
-    cut_back _ _ _ _ _ c.len-before.result c.truncate.ensures.items c.in-Err.ensures c.in-ok-extend-from-slice.ensures.items (c.len-before.ensures ∙ c.args.numbers.now.ok.0)
+    cut_back _ _ _ _ _ c.len-before.result c.truncate.ensures.items c.in-Err.ensures c.in_ok-extend_from_slice.ensures.items (c.len-before.ensures ∙ c.args.numbers.now.ok.0)
 
 pub returns : goal.returns
-returns g c = added_twice _ _ (vec_items c.args.numbers.now) (25 ∷ c.args.unfilled.now.number ∷ c.args.unfilled.now.window ∷ []) _ c.in-default.ensures c.in-ok-extend-from-slice.ensures.items
+returns g c = added_twice _ _ (vec_items c.args.numbers.now) (25 ∷ c.args.unfilled.now.number ∷ c.args.unfilled.now.window ∷ []) _ c.in_default.ensures c.in_ok-extend_from_slice.ensures.items

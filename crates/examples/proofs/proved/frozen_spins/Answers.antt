@@ -15,4 +15,4 @@ frozen (Ok k) told = subst₂ (λ (e : Extent) (t : List ℕ). AlwaysApart (spin
 frozen (Err e) told = faultless told.0 (spins_refusal e) told.1 told.3
 
 pub returns : goal.returns
-returns c = frozen c.from-numbers.result c.from-numbers.ensures
+returns c = frozen c.from_numbers.result c.from_numbers.ensures

@@ -48,5 +48,5 @@ loop-cell-preserved g c =
     let cells = g.K.Kind.cells state in
     let own = owned (g.K.Kind.extent rule) (g.K.Kind.carried state) c.owns.result c.owns.ensures c.if-not-owns.false in
     let long = (g.met.K.Kind.sized rule cells (g.met.K.Kind.lawful rule state (sym (agree_same _ _ own)))).0 in
-    let value = cell_given (g.K.Kind.extent rule) (g.K.Kind.carried state) cells c.loop-cell.cell c.in-ok-value.value c.in-ok-value.ensures in
-    more cells (vec_items c.loop-cell.values) (vec_items c.push.new.self) c.loop-cell.cell c.in-ok-value.value c.from.result (is_ok c.push.result) (omega arith) c.push.ensures.items c.if-is-err.ensures.negation c.from.ensures value c.loop-cell.invariant
+    let value = cell_given (g.K.Kind.extent rule) (g.K.Kind.carried state) cells c.loop-cell.cell c.in_ok-value.value c.in_ok-value.ensures in
+    more cells (vec_items c.loop-cell.values) (vec_items c.push.new.self) c.loop-cell.cell c.in_ok-value.value c.from.result (is_ok c.push.result) (omega arith) c.push.ensures.items c.if-is_err.ensures.negation c.from.ensures value c.loop-cell.invariant

@@ -18,8 +18,8 @@ loop-below-init c = ap (λ (text : List ℕ). text ++ hex_digits 16 c.args.word)
 pub loop-below-preserved : goal.loop-below-preserved
 loop-below-preserved c =
     let n = c.loop-below.below in
-    let written = c.in-ok-push.ensures.ascii c.hex-digit.ensures.ascii ∙ ap (λ (d : ℕ). d ∷ []) c.hex-digit.ensures.value in
-    more (string_bytes c.loop-below.text) (string_bytes c.push.new.self) _ (hex_digits 16 c.args.word) n c.args.word c.loop-below-test.true c.in-ok-push.ensures.bytes written c.loop-below.invariant
+    let written = c.in_ok-push.ensures.ascii c.hex_digit.ensures.ascii ∙ ap (λ (d : ℕ). d ∷ []) c.hex_digit.ensures.value in
+    more (string_bytes c.loop-below.text) (string_bytes c.push.new.self) _ (hex_digits 16 c.args.word) n c.args.word c.loop-below-test.true c.in_ok-push.ensures.bytes written c.loop-below.invariant
 
 pub returns : goal.returns
 unfolding hex_digits

@@ -14,8 +14,8 @@ regrouped a b c d e f g h i = simp append_assoc
 pub returns : goal.returns
 returns c =
     let m = c.args.chosen in
-    let word = string_bytes c.in-ok-word.word in
+    let word = string_bytes c.in_ok-word.word in
     made_too c.format.result _ _
     (λ t e. e ∙ regrouped (codes "place ") (decimal m.place) (codes " word ") word (codes " site ") (decimal m.site) (codes " level ") (decimal m.level) newline
-    ∙ ap (λ (w : List ℕ). codes "place " ++ decimal m.place ++ codes " word " ++ w ++ codes " site " ++ decimal m.site ++ codes " level " ++ decimal m.level ++ newline) c.in-ok-word.ensures)
+    ∙ ap (λ (w : List ℕ). codes "place " ++ decimal m.place ++ codes " word " ++ w ++ codes " site " ++ decimal m.site ++ codes " level " ++ decimal m.level ++ newline) c.in_ok-word.ensures)
     c.format.ensures.ok

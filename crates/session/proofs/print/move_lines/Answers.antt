@@ -12,4 +12,4 @@ returns-in-Ok g c =
     let state = g.K.Kind.carried c.args.state.now in
     let cells = g.K.Kind.cells c.args.state.now in
     let front = move_line c.args.chosen in
-    still_own (agree rule state) (state_refusal Foreign) (λ (after : List ℕ). front ++ after) c.as-str.result.now (string_bytes c.in-ok-after.after) (printed (codes "state") cells) (string_bytes c.in-Ok.lines) c.in-ok-after.ensures c.as-str.ensures.value c.in-Ok.ensures
+    still_own (agree rule state) (state_refusal Foreign) (λ (after : List ℕ). front ++ after) c.as_str.result.now (string_bytes c.in_ok-after.after) (printed (codes "state") cells) (string_bytes c.in-Ok.lines) c.in_ok-after.ensures c.as_str.ensures.value c.in-Ok.ensures

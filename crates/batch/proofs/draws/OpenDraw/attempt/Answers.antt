@@ -21,12 +21,12 @@ returns g c =
     let s = setting m (g.K.Kind.extent c.args.rule.now) r in
     let st = draw_and_states d (g.K.Kind.carried c.args.low.now) (g.K.Kind.carried c.args.high.now) (g.K.Kind.cells c.args.low.now) (g.K.Kind.cells c.args.high.now) in
     let ws = window_words r d.batch.stretch d.batch.opened c.args.window in
-    let words = c.in-ok-admit.ensures in
-    let ends = c.in-ok-met.ensures in
+    let words = c.in_ok-admit.ensures in
+    let ends = c.in_ok-met.ensures in
     record {
       reports =
-          as_marked g.Fault.Cause.refusal d _ _ _ c.in-ok-met.met refl
-          ∙ accepted s (open_machine d) st c.args.window ws _ _ c.in-ok-met.met words ends.leads-low ends.leads-high ends.decides;
+          as_marked g.Fault.Cause.refusal d _ _ _ c.in_ok-met.met refl
+          ∙ accepted s (open_machine d) st c.args.window ws _ _ c.in_ok-met.met words ends.leads_low ends.leads_high ends.decides;
       some = λ _. (accepted_when s (open_machine d) st c.args.window ws words).0.fills.some;
       same = refl;
       keeps = ends.keeps;

@@ -8,8 +8,8 @@ returns g c =
     let m = g.K.Kind.meaning c.args.rule.now in
     let r = g.S.Source.reading c.args.source.now in
     let n = c.args.left + 1 in
-    let here = read_word r d.stretch d.opened c.args.window n c.in-ok-word.word n refl c.in-ok-word.ensures in
+    let here = read_word r d.stretch d.opened c.args.window n c.in_ok-word.word n refl c.in_ok-word.ensures in
     record {
-      leads = moved m r d.stretch d.opened n c.args.left c.in-ok-word.word _ _ (omega arith) here c.in-ok-apply.ensures.leaves;
-      keeps = c.in-ok-apply.ensures.keeps;
+      leads = moved m r d.stretch d.opened n c.args.left c.in_ok-word.word _ _ (omega arith) here c.in_ok-apply.ensures.leaves;
+      keeps = c.in_ok-apply.ensures.keeps;
     }

@@ -5,7 +5,7 @@ use Rattle.independent_sets.specs.Apart.{free_from, taken}
 use Rattle.independent_sets.specs.Beside.{neighbour_at, seen_none, seen_some}
 use Rattle.independent_sets.specs.Members.{Among}
 use Rattle.independent_sets.proofs.rule.IndependentSets.is_free.Goals as goal
-use Rattle.independent_sets.proofs.rule.IndependentSets.is_free.Goals.{in-Some+else-get-ne0, in-default}
+use Rattle.independent_sets.proofs.rule.IndependentSets.is_free.Goals.{in-Some+else-get-ne0, in_default}
 
 pub loop-shift-preserved : goal.loop-shift-preserved
 loop-shift-preserved c =
@@ -16,7 +16,7 @@ loop-shift-preserved c =
     let few = c.loop-shift-test.true in
     elim c.match-beside.branch [
       | in-Some+else-get-ne0 w ↦ seen_some (λ j. get_or x j 0 ≡ 0) e i n few c.loop-shift.invariant w.in-Some.neighbour w.in-Some.ensures (sym w.get.ensures ∙ w.if-get-ne0.false)
-      | in-default w ↦ seen_none (λ j. get_or x j 0 ≡ 0) e i n few c.loop-shift.invariant w.in-default.ensures
+      | in_default w ↦ seen_none (λ j. get_or x j 0 ≡ 0) e i n few c.loop-shift.invariant w.in_default.ensures
     ]
 
 pub returns-then-get-ne0 : goal.returns-then-get-ne0

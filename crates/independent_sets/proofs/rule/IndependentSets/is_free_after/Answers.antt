@@ -6,7 +6,7 @@ use Rattle.independent_sets.specs.Apart.{free_from, taken}
 use Rattle.independent_sets.specs.Beside.{neighbour_at, seen_none, seen_some}
 use Rattle.independent_sets.specs.Members.{Among}
 use Rattle.independent_sets.proofs.rule.IndependentSets.is_free_after.Goals as goal
-use Rattle.independent_sets.proofs.rule.IndependentSets.is_free_after.Goals.{in-Some+else-neighbour-before, else-neighbour-before-via-then-neighbour-before+else-before-neighbour-ne0, else-neighbour-before-via-else-neighbour-before, in-default}
+use Rattle.independent_sets.proofs.rule.IndependentSets.is_free_after.Goals.{in-Some+else-neighbour-before, else-neighbour-before-via-then-neighbour-before+else-before-neighbour-ne0, else-neighbour-before-via-else-neighbour-before, in_default}
 
 pub loop-shift-preserved : goal.loop-shift-preserved
 loop-shift-preserved c =
@@ -22,7 +22,7 @@ loop-shift-preserved c =
             | else-neighbour-before-via-else-neighbour-before v ↦ get_or_past x j 0 v.if-neighbour-before.false
           ] in
           seen_some (λ k. get_or x k 0 ≡ 0) e (length x) n few c.loop-shift.invariant j w.in-Some.ensures empty)
-      | in-default w ↦ seen_none (λ j. get_or x j 0 ≡ 0) e (length x) n few c.loop-shift.invariant w.in-default.ensures
+      | in_default w ↦ seen_none (λ j. get_or x j 0 ≡ 0) e (length x) n few c.loop-shift.invariant w.in_default.ensures
     ]
 
 pub returns-then-before-neighbour-ne0 : goal.returns-then-before-neighbour-ne0

@@ -10,12 +10,12 @@ one_alone : (t : Bool) (v w : ℕ) → v ≡ bool_byte t → w ≡ bool_byte (no
 one_alone true v w this other h = other
 one_alone false v w this other h = absurd (omega arith)
 
-pub invariant-of-self : goal.invariant-of-self
-invariant-of-self c =
+pub invariant_of-self : goal.invariant_of-self
+invariant_of-self c =
     let e = state_extent c.args.self.now in
     let v = c.from.result in
     let w = c.from-2.result in
-    let alone = one_alone c.args.light v w c.from.ensures c.from-2.ensures in (
-      λ i. rw c.write-colours.ensures.writes (checkerboard_bits e v w (search rules) (search rules) i),
-      (ap₂ independent c.write-colours.ensures.keeps c.write-colours.ensures.writes ∙ from_apart e (checkerboard e v w) (checkerboard_apart e v w alone), tt),
-    )
+    let alone = one_alone c.args.light v w c.from.ensures c.from-2.ensures in record {
+      bits = λ i. rw c.write_colours.ensures.writes (checkerboard_bits e v w (search rules) (search rules) i);
+      apart = ap₂ independent c.write_colours.ensures.keeps c.write_colours.ensures.writes ∙ from_apart e (checkerboard e v w) (checkerboard_apart e v w alone);
+    }

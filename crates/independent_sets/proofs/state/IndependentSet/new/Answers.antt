@@ -5,9 +5,9 @@ use Rattle.independent_sets.specs.Apart.{from_apart}
 use Rattle.independent_sets.specs.Checkerboards.{checkerboard_apart, checkerboard_bits}
 use Rattle.independent_sets.proofs.state.IndependentSet.new.Goals as goal
 
-pub invariant-of-result : goal.invariant-of-result
-invariant-of-result c =
-    let e = grid_extent c.in-ok-grid.grid in (
-      λ i. rw c.write-colours.ensures.writes (checkerboard_bits e 0 1 (omega arith) (omega arith) i),
-      (ap₂ independent c.write-colours.ensures.keeps c.write-colours.ensures.writes ∙ from_apart e (checkerboard e 0 1) (checkerboard_apart e 0 1 (λ h. absurd (omega arith))), tt),
-    )
+pub invariant_of-result : goal.invariant_of-result
+invariant_of-result c =
+    let e = grid_extent c.in_ok-grid.grid in record {
+      bits = λ i. rw c.write_colours.ensures.writes (checkerboard_bits e 0 1 (omega arith) (omega arith) i);
+      apart = ap₂ independent c.write_colours.ensures.keeps c.write_colours.ensures.writes ∙ from_apart e (checkerboard e 0 1) (checkerboard_apart e 0 1 (λ h. absurd (omega arith)));
+    }

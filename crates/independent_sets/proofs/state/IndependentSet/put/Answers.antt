@@ -11,15 +11,15 @@ byte_set : (t : Bool) (v : ℕ) → v ≡ bool_byte t → 0 < v → t ≡ true
 byte_set true v same some = refl
 byte_set false v same some = absurd (omega arith)
 
-pub invariant-of-self : goal.invariant-of-self
-invariant-of-self c =
+pub invariant_of-self : goal.invariant_of-self
+invariant_of-self c =
     let s = c.args.self.now in
     let e = state_extent s in
     let x = state_cells s in
     let i = c.args.cell in
     let v = c.from.result in
     let long : length x ≡ cell_count e = sym s.grid.cells.ok.0 ∙ s.grid.sized in
-    let apart = set_apart e x i v long (apart_from e x long s.apart) (λ some. c.requires (byte_set c.args.occupied v c.from.ensures some)) in (
-      λ k. rw c.put.ensures.writes (set_upto x i v 1 s.bits (search rules) k),
-      (ap₂ independent c.put.ensures.keeps c.put.ensures.writes ∙ from_apart e (set x i v) apart, tt),
-    )
+    let apart = set_apart e x i v long (apart_from e x long s.apart) (λ some. c.requires (byte_set c.args.occupied v c.from.ensures some)) in record {
+      bits = λ k. rw c.put.ensures.writes (set_upto x i v 1 s.bits (search rules) k);
+      apart = ap₂ independent c.put.ensures.keeps c.put.ensures.writes ∙ from_apart e (set x i v) apart;
+    }

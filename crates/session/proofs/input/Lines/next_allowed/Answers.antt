@@ -23,4 +23,4 @@ taken_allowed s l o d is (inl e) = only_allowed s l (request_of d) (ap (λ (p : 
 taken_allowed s l o d is (inr e) = let z : ◌≡◌ {A = ℕ} 0 1 = cc in absurd (omega arith)
 
 pub returns-in-Some-2 : goal.returns-in-Some-2
-returns-in-Some-2 g c = taken_allowed c.args.stage (line_meaning c.as-slice.result.now) c.in-ok-directive.field-0 c.in-Some-2.directive c.in-Some-2.is c.in-ok-directive.ensures
+returns-in-Some-2 g c = taken_allowed c.args.stage (line_meaning c.as_slice.result.now) c.in_ok-directive.field-0 c.in-Some-2.directive c.in-Some-2.is c.in_ok-directive.ensures

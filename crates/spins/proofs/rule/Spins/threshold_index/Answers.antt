@@ -3,7 +3,7 @@ use Rattle.std.proofs.lemmas.Bool.{eqb-true, eqb-false}
 use Rattle.spins.specs.Spins.{spins_extent, spin_cells}
 use Rattle.spins.proofs.Sums.{holding_none, holding_yes, holding_no}
 use Rattle.spins.proofs.rule.Spins.threshold_index.Goals as goal
-use Rattle.spins.proofs.rule.Spins.threshold_index.Goals.{in-Some+then-is-up, in-Some+else-is-up, in-default}
+use Rattle.spins.proofs.rule.Spins.threshold_index.Goals.{in-Some+then-is_up, in-Some+else-is_up, in_default}
 
 pub loop-shift-preserved : goal.loop-shift-preserved
 loop-shift-preserved c =
@@ -13,24 +13,24 @@ loop-shift-preserved c =
     let n = c.loop-shift.shift-index in
     let few = c.loop-shift-test.true in
     elim c.match-beside.branch [
-      | in-Some+then-is-up w ↦
+      | in-Some+then-is_up w ↦
           (let j = w.in-Some.neighbour in
           let at = w.in-Some.ensures in
-          let up : get_or x j 0 ≡ 1 = eqb-true (get_or x j 0) 1 (sym w.is-up.ensures ∙ w.if-is-up.true) in
+          let up : get_or x j 0 ≡ 1 = eqb-true (get_or x j 0) 1 (sym w.is_up.ensures ∙ w.if-is_up.true) in
           let ups = holding_yes e x 1 i n j few at up in
           let downs = holding_no e x 0 i n j few at (λ z. omega arith) in
           omega (arith, w.index-is))
-      | in-Some+else-is-up w ↦
+      | in-Some+else-is_up w ↦
           (let j = w.in-Some.neighbour in
           let at = w.in-Some.ensures in
           let spin : get_or x j 0 ≤ 1 = c.args.state.now.spins j in
-          let not-up = eqb-false (get_or x j 0) 1 (sym w.is-up.ensures ∙ w.if-is-up.false) in
+          let not-up = eqb-false (get_or x j 0) 1 (sym w.is_up.ensures ∙ w.if-is_up.false) in
           let down : get_or x j 0 ≡ 0 = omega (arith, not-up) in
           let ups = holding_no e x 1 i n j few at not-up in
           let downs = holding_yes e x 0 i n j few at down in
           omega (arith, w.index-is))
-      | in-default w ↦
-          (let at = w.in-default.ensures in
+      | in_default w ↦
+          (let at = w.in_default.ensures in
           let ups = holding_none e x 1 i n few at in
           let downs = holding_none e x 0 i n few at in
           omega (arith, w.index-is))

@@ -14,15 +14,15 @@ code_test e bytes i count r t h answer is =
     let whole : i - 0 ≡ i = omega arith in
     sym (ap₂ (may_follow e) (ap (λ (n : ℕ). take n bytes) whole) (get_or-take (count - 0) bytes i 0 (omega (arith, length-take (count - 0) bytes)))) ∙ sym answer ∙ is
 
-pub returns-then-not-may-follow : goal.returns-then-not-may-follow
-returns-then-not-may-follow c =
+pub returns-then-not-may_follow : goal.returns-then-not-may_follow
+returns-then-not-may_follow c =
     let e = rule_extent c.args.self.now in
     let bytes = c.args.bytes.now in
     let i = c.loop-cell.cell in
-    let count : c.cell-count-count.result - 0 ≡ cell_count e = omega (arith, c.cell-count-count.ensures) in
-    let enough : cell_count e ≤ length bytes = omega (arith, c.cell-count-count.ensures) in
+    let count : c.cell_count-count.result - 0 ≡ cell_count e = omega (arith, c.cell_count-count.ensures) in
+    let enough : cell_count e ≤ length bytes = omega (arith, c.cell_count-count.ensures) in
     let within : i < cell_count e = omega (arith, length-take-le (cell_count e) bytes enough, rw count at c.loop-cell-test.true) in
-    let stops : may_follow e (take i bytes) (get_or bytes i 0) ≡ false = code_test e bytes i c.cell-count-count.result c.may-follow.result false c.loop-cell-test.true c.may-follow.ensures c.if-not-may-follow.true in
+    let stops : may_follow e (take i bytes) (get_or bytes i 0) ≡ false = code_test e bytes i c.cell_count-count.result c.may_follow.result false c.loop-cell-test.true c.may_follow.ensures c.if-not-may_follow.true in
     record {
       answers = load_unlawful (independent_sets e) e (state_extent c.args.state.now) bytes (search rules) enough i (bytes_bad e bytes enough i within c.loop-cell.invariant stops);
       leaves = search rules;
@@ -34,15 +34,15 @@ loop-cell-preserved c =
     let e = rule_extent c.args.self.now in
     let bytes = c.args.bytes.now in
     below_more (λ j. may_follow e (take j bytes) (get_or bytes j 0) ≡ true) c.loop-cell.cell c.loop-cell.invariant
-    (code_test e bytes c.loop-cell.cell c.cell-count-count.result c.may-follow.result true c.loop-cell-test.true c.may-follow.ensures c.if-not-may-follow.false)
+    (code_test e bytes c.loop-cell.cell c.cell_count-count.result c.may_follow.result true c.loop-cell-test.true c.may_follow.ensures c.if-not-may_follow.false)
 
-pub take-cells-requires : goal.take-cells-requires
-take-cells-requires c =
+pub take_cells-requires : goal.take_cells-requires
+take_cells-requires c =
     let e = rule_extent c.args.self.now in
     let bytes = c.args.bytes.now in
-    let enough : cell_count e ≤ length bytes = omega (arith, c.cell-count-count.ensures) in
-    let size = length-take (c.cell-count-count.result - 0) bytes in
-    let good = bytes_lawful e bytes enough (λ j h. c.loop-cell.invariant j (omega (arith, c.loop-cell-test.false, c.cell-count-count.ensures))) in
+    let enough : cell_count e ≤ length bytes = omega (arith, c.cell_count-count.ensures) in
+    let size = length-take (c.cell_count-count.result - 0) bytes in
+    let good = bytes_lawful e bytes enough (λ j h. c.loop-cell.invariant j (omega (arith, c.loop-cell-test.false, c.cell_count-count.ensures))) in
     let theirs = subst (λ (d : Extent). (cell_count d ≤ length bytes) × ((k : ℕ) → get_or (take (cell_count d) bytes) k 0 ≤ 1) × (independent d (take (cell_count d) bytes) ≡ true)) (agree_same e (state_extent c.args.state.now) (search rules)) (enough, good.0, good.1) in
     record { enough = theirs.0; bits = theirs.1; apart = theirs.2 }
 
@@ -52,11 +52,11 @@ returns c =
     let bytes = c.args.bytes.now in
     let owned : agree e (state_extent c.args.state.now) ≡ true = search rules in
     let same = ap cell_count (agree_same e (state_extent c.args.state.now) owned) in
-    let enough : cell_count e ≤ length bytes = omega (arith, c.cell-count-count.ensures) in
-    let size = length-take (c.cell-count-count.result - 0) bytes in
-    let good = bytes_lawful e bytes enough (λ j h. c.loop-cell.invariant j (omega (arith, c.loop-cell-test.false, c.cell-count-count.ensures))) in
+    let enough : cell_count e ≤ length bytes = omega (arith, c.cell_count-count.ensures) in
+    let size = length-take (c.cell_count-count.result - 0) bytes in
+    let good = bytes_lawful e bytes enough (λ j h. c.loop-cell.invariant j (omega (arith, c.loop-cell-test.false, c.cell_count-count.ensures))) in
     record {
       answers = load_lawful (independent_sets e) e (state_extent c.args.state.now) bytes owned enough (lawful_from e (take (cell_count e) bytes) (length-take-le (cell_count e) bytes enough) good.0 good.1);
-      leaves = c.take-cells.ensures.writes ∙ ap (λ (n : ℕ). take n bytes) (sym same);
+      leaves = c.take_cells.ensures.writes ∙ ap (λ (n : ℕ). take n bytes) (sym same);
       keeps = search rules;
     }
