@@ -1,6 +1,6 @@
 -- Leading a state through words, and what a list of words answers.
 use Rattle.std.specs.Prelude.{ℕ, ◌^◌, ◌<◌, cond, List, [], ◌∷◌}
-use Rattle.std.specs.List.{AllByRecursion as All}
+use Rattle.std.specs.List.{AllByRecursion}
 use Rattle.std.specs.Str.{bytes_eq}
 use Rattle.lattice.specs.Kind.{Meaning}
 
@@ -11,7 +11,7 @@ lead m (w ∷ ws) x = lead m ws (m.step w x)
 
 -- Numbers of 64 bits.
 abbrev pub Words : List ℕ → Type 0
-Words ws = All (λ w. w < 2 ^ 64) ws
+Words ws = AllByRecursion (λ w. w < 2 ^ 64) ws
 
 -- Where the runs from bottom and top are at time zero: met in one state, or apart at two.
 pub data Ends : Type 0 where

@@ -1,6 +1,6 @@
 -- Lists of cells whose values keep below a bound, and the order cell by cell.
 use Rattle.std.proofs.Common.{◌≡◌, ℕ, zero, suc, ◌-◌, ◌<◌, ◌≤◌, List, [], ◌∷◌, ◌++◌, length, get_or, take, set, replicate, sym, ap, ◌∙◌, arith}
-use Rattle.std.specs.List.{AllByRecursion as All}
+use Rattle.std.specs.List.{AllByRecursion}
 use Rattle.std.proofs.lemmas.List.{ext_get_or, get_or-take, length-append, length-replicate, length-take-le}
 use Rattle.std.proofs.ByRecursion.{All-from_get_or}
 use Rattle.lattice.specs.Orders.{cellwise}
@@ -38,10 +38,10 @@ begins_same x y n long same i h =
     let size = length-take-le n x long in
     sym (get_or-take n y i 0 h) ∙ ap (λ (l : List ℕ). get_or l i 0) (rw size at same) ∙ get_or-take n x i 0 h
 
-pub all_upto : (x : List ℕ) (b : ℕ) → ((k : ℕ) → get_or x k 0 ≤ b) → All (λ v. v ≤ b) x
+pub all_upto : (x : List ℕ) (b : ℕ) → ((k : ℕ) → get_or x k 0 ≤ b) → AllByRecursion (λ v. v ≤ b) x
 all_upto x b each = All-from_get_or (λ v. v ≤ b) x 0 (λ i h. each i)
 
-pub upto_all : (x : List ℕ) (b : ℕ) → All (λ v. v ≤ b) x → (k : ℕ) → get_or x k 0 ≤ b
+pub upto_all : (x : List ℕ) (b : ℕ) → AllByRecursion (λ v. v ≤ b) x → (k : ℕ) → get_or x k 0 ≤ b
 upto_all [] b all k = omega arith
 upto_all (v ∷ x) b all zero = all.0
 upto_all (v ∷ x) b all (suc k) = upto_all x b all.1 k

@@ -1,7 +1,7 @@
 -- `value-lists` names each list of its length and values, and each once; a test keeps that.
 use Rattle.std.proofs.Common.{◌≡◌, ℕ, zero, suc, ◌+◌, ◌<◌, ◌≤◌, Bool, true, false, ◌⊎◌, List, [], ◌∷◌, ◌++◌, map, length, filter, sym, refl, ap, ◌∙◌, subst, inl, inr, ⊎_elim, arith}
 use Rattle.std.proofs.lemmas.Bool.{cases_eq, cases_Bool}
-use Rattle.std.specs.List.{range_with_len, flat_map, AllByRecursion as All}
+use Rattle.std.specs.List.{range_with_len, flat_map, AllByRecursion}
 use Rattle.lattice.specs.Kind.{Holds, Distinct}
 use Rattle.lattice.specs.Lists.{value_lists}
 
@@ -77,13 +77,13 @@ distinct_fronts xs a (suc n) d =
     omega (arith, e, q.4))
 
 -- the list names every list of n values from 0 to m
-pub listed : (m : ℕ) (x : List ℕ) → All (λ v. v ≤ m) x → Holds (value_lists m (length x)) x
+pub listed : (m : ℕ) (x : List ℕ) → AllByRecursion (λ v. v ≤ m) x → Holds (value_lists m (length x)) x
 unfolding value_lists
 listed m [] all = inl refl
 listed m (v ∷ x) all = holds_fronts (value_lists m (length x)) 0 (suc m) v x (listed m x all.1) (omega arith) (omega (arith, all.0))
 
 -- and no other
-pub listed_parts : (m n : ℕ) (x : List ℕ) → Holds (value_lists m n) x → (length x ≡ n) × All (λ v. v ≤ m) x
+pub listed_parts : (m n : ℕ) (x : List ℕ) → Holds (value_lists m n) x → (length x ≡ n) × AllByRecursion (λ v. v ≤ m) x
 unfolding value_lists
 listed_parts m zero x (inl e) = rw e (refl, tt)
 listed_parts m zero x (inr h) = absurd h

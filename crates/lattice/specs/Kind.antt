@@ -1,6 +1,6 @@
 -- What a kind of state means, and the laws that it keeps.
 use Rattle.std.specs.Prelude.{◌≡◌, ℕ, ◌+◌, ◌^◌, ◌<◌, ◌≤◌, ◌⊎◌, List, [], ◌∷◌, length, take}
-use Rattle.std.specs.List.{AllByRecursion as All}
+use Rattle.std.specs.List.{AllByRecursion}
 use Rattle.lattice.specs.Grid.{Extent, cell_count}
 
 -- A rule: the list of its lawful states, each by its cell values, their order, the least and the greatest, and the
@@ -45,7 +45,7 @@ Monotone m = (w : ℕ) → w < 2 ^ 64 → (x y : List ℕ) → Lawful m x → La
 
 -- Every lawful state has a value for each cell, and each value fits the kind's width in bits.
 abbrev pub Sized : Meaning → Extent → ℕ → Type 0
-Sized m e bits = (x : List ℕ) → Lawful m x → (length x ≡ cell_count e) × All (λ v. v < 2 ^ bits) x
+Sized m e bits = (x : List ℕ) → Lawful m x → (length x ≡ cell_count e) × AllByRecursion (λ v. v < 2 ^ bits) x
 
 -- Some lawful state begins with these cells.
 abbrev pub Begins : Meaning → List ℕ → Type 0

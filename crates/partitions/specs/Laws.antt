@@ -1,7 +1,7 @@
 -- Plane partitions keep the laws of a kind, whatever their sides and cap.
 use Rattle.std.specs.Prelude.{◌≡◌, ℕ, ◌+◌, ◌-◌, ◌^◌, ◌<◌, ◌≤◌, true, false, cond, ltb, List, ◌++◌, length, take, replicate, Decides, ◌≢◌, nat_le, nat_lt, slice_index, slice_index_or, slice_set, refl}
 use Rattle.std.proofs.Common.{⊎_elim, sym, ap, ◌∙◌, le_refl, le_trans, zero-add, arith}
-use Rattle.std.specs.List.{range_with_len, list_all, AllByRecursion as All}
+use Rattle.std.specs.List.{range_with_len, list_all, AllByRecursion}
 use Rattle.std.proofs.lemmas.List.FromFn.{get_or-range_with_len, length-range_with_len}
 use Rattle.std.proofs.ByRecursion.{All-from_get_or, All-get_or, All-weaker, Decides-by_and}
 use Rattle.std.proofs.lemmas.List.{get_or_append_left, get_or-append_right, get_or_past, get_or-set_same, get_or-take, length-replicate, length-set, length-take-le, set-get_or, take_at}
@@ -22,7 +22,7 @@ module _ (e : Extent) where
   abbrev pub Fits : List ℕ → ℕ → Type 0
   Fits x k = slice_index x k ≤ highest e x k
 
-  test_decides : (x : List ℕ) → Decides (falls e x) (All (Fits x) (range_with_len 0 (cell_count e)))
+  test_decides : (x : List ℕ) → Decides (falls e x) (AllByRecursion (Fits x) (range_with_len 0 (cell_count e)))
   test_decides x =
       Decides-by_and (λ k. nat_le (slice_index x k) (highest e x k)) (Fits x) (list_all (λ k. nat_le (slice_index x k) (highest e x k)))
       (λ k. (leb-true (slice_index x k) (highest e x k), le-leb (slice_index x k) (highest e x k))) refl (λ _ _. refl) (range_with_len 0 (cell_count e))
