@@ -69,7 +69,7 @@ impl Cause for StretchFault {
 }
 
 impl<F: Cause + Drop> Cause for Fault<F> {
-    ghost refusal = { fault_refusal F.Cause.refusal };
+    ghost refusal = { fault_refusal F.refusal };
 
     fn tell(&self, numbers: &mut Vec<u64>) -> Result<(), AllocError> {
         match self {
@@ -87,7 +87,7 @@ fn tell_unfilled<F: Cause + Drop>(
     unfilled: &Unfilled<F>,
     numbers: &mut Vec<u64>,
 ) -> Result<(), AllocError>
-    ensures { numbers.new.items ≡ (if is_ok result then numbers.old.items ++ row (fault_refusal F.Cause.refusal (Source unfilled.now)) else numbers.old.items) }
+    ensures { numbers.new.items ≡ (if is_ok result then numbers.old.items ++ row (fault_refusal F.refusal (Source unfilled.now)) else numbers.old.items) }
 {
     let before = numbers.len();
     numbers.extend_from_slice(&[25, unfilled.number, unfilled.window])?;

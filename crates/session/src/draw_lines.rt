@@ -41,7 +41,7 @@ pub(crate) fn states_lines<K: Kind>(
     low: &K::State,
     high: &K::State,
 ) -> Result<String, StateFault>
-    ensures { Tells (agree (extent rule.now) (carried low.now) && agree (extent rule.now) (carried high.now)) (state_lines (cells low.now) (cells high.now)) (answer string_bytes state_refusal result) }
+    ensures { Tells (agree (K.extent rule.now) (K.carried low.now) && agree (K.extent rule.now) (K.carried high.now)) (state_lines (K.cells low.now) (K.cells high.now)) (answer string_bytes state_refusal result) }
 {
     let first = cells_line(heap, rule, "low", low)?;
     let second = cells_line(heap, rule, "high", high)?;
@@ -77,7 +77,7 @@ pub(crate) fn answer_lines<K: Kind, F: Cause + Drop>(
     low: &K::State,
     high: &K::State,
 ) -> Result<Option<String>, StateFault>
-    ensures { Tells (agree (K.Kind.extent rule.now) (K.Kind.carried low.now) && agree (K.Kind.extent rule.now) (K.Kind.carried high.now)) (answer_lines (said_by F.Cause.refusal reply.now) (option_map drawn_says draw) (K.Kind.cells low.now) (K.Kind.cells high.now)) (answer (option_map string_bytes) state_refusal result) }
+    ensures { Tells (agree (K.extent rule.now) (K.carried low.now) && agree (K.extent rule.now) (K.carried high.now)) (answer_lines (said_by F.refusal reply.now) (option_map drawn_says draw) (K.cells low.now) (K.cells high.now)) (answer (option_map string_bytes) state_refusal result) }
 {
     let head = match first_line(heap, reply, draw) {
         Ok(Some(head)) => head,
@@ -95,7 +95,7 @@ fn first_line<F: Cause + Drop>(
     reply: &Reply<F>,
     draw: Option<Drawn>,
 ) -> Result<Option<String>, AllocError>
-    ensures { IfOk result (λ o. option_map string_bytes o ≡ first_line (said_by F.Cause.refusal reply.now) (option_map drawn_says draw)) }
+    ensures { IfOk result (λ o. option_map string_bytes o ≡ first_line (said_by F.refusal reply.now) (option_map drawn_says draw)) }
 {
     match reply {
         Reply::Opened => number_line(heap, "opened", draw),
@@ -141,7 +141,7 @@ fn state_part<K: Kind, F: Cause + Drop>(
     low: &K::State,
     high: &K::State,
 ) -> Result<String, StateFault>
-    ensures { Tells (agree (K.Kind.extent rule.now) (K.Kind.carried low.now) && agree (K.Kind.extent rule.now) (K.Kind.carried high.now)) (state_part (said_by F.Cause.refusal reply.now) (K.Kind.cells low.now) (K.Kind.cells high.now)) (answer string_bytes state_refusal result) }
+    ensures { Tells (agree (K.extent rule.now) (K.carried low.now) && agree (K.extent rule.now) (K.carried high.now)) (state_part (said_by F.refusal reply.now) (K.cells low.now) (K.cells high.now)) (answer string_bytes state_refusal result) }
 {
     match reply {
         Reply::Met => cells_line(heap, rule, "state", low),

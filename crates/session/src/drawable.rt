@@ -24,7 +24,7 @@ pub trait Drawable: Kind {
         low: &mut Self::State,
         high: &mut Self::State,
     ) -> (Stage, Reply<S::Fault>)
-        ensures carries { Carries (setting (Self.Kind.meaning self.now) (Self.Kind.extent self.now) (S.Source.reading source.now)) (two (Self.Kind.carried low.old) (Self.Kind.carried high.old) (Self.Kind.cells low.old) (Self.Kind.cells high.old)) (stage_machine stage) request (response (said_by S.Fault.Cause.refusal result.1) (stage_machine result.0) (Self.Kind.cells low.new) (Self.Kind.cells high.new)) }
+        ensures carries { Carries (setting (Self.Kind.meaning self.now) (Self.Kind.extent self.now) (S.reading source.now)) (two (Self.Kind.carried low.old) (Self.Kind.carried high.old) (Self.Kind.cells low.old) (Self.Kind.cells high.old)) (stage_machine stage) request (response (said_by S.Fault.refusal result.1) (stage_machine result.0) (Self.Kind.cells low.new) (Self.Kind.cells high.new)) }
         ensures keeps { (Self.Kind.carried low.new ≡ Self.Kind.carried low.old) × (Self.Kind.carried high.new ≡ Self.Kind.carried high.old) };
 }
 

@@ -16,9 +16,9 @@ pub struct Move {
 
 // Applies the word, and answers the site and the level that it chose.
 pub fn move_by<K: Kind>(rule: &K, state: &mut K::State, word: u64) -> Result<Move, StateFault>
-    ensures answers { answer chosen state_refusal result ≡ move_answer (extent rule.now) (carried state.old) word }
-    ensures leaves { cells state.new ≡ left_by (answer chosen state_refusal result) ((meaning rule.now).step word (cells state.old)) (cells state.old) }
-    ensures keeps { carried state.new ≡ carried state.old }
+    ensures answers { answer chosen state_refusal result ≡ move_answer (K.extent rule.now) (K.carried state.old) word }
+    ensures leaves { K.cells state.new ≡ left_by (answer chosen state_refusal result) ((K.meaning rule.now).step word (K.cells state.old)) (K.cells state.old) }
+    ensures keeps { K.carried state.new ≡ K.carried state.old }
 {
     rule.apply(state, word)?;
     let (site, level) = split(word, rule.cell_count());

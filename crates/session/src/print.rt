@@ -37,7 +37,7 @@ pub(crate) fn refused_line<C: Cause>(heap: Global, cause: &C) -> Result<Option<S
 }
 
 pub(crate) fn rule_line<K: Kind>(heap: Global, rule: &K) -> Result<String, AllocError>
-    ensures { IfOk result (λ t. string_bytes t ≡ rule_line coded (extent rule.now)) }
+    ensures { IfOk result (λ t. string_bytes t ≡ rule_line K.coded (K.extent rule.now)) }
 {
     let (rows, columns) = rule.sides();
     let numbers = [
@@ -50,7 +50,7 @@ pub(crate) fn rule_line<K: Kind>(heap: Global, rule: &K) -> Result<String, Alloc
 }
 
 pub(crate) fn source_line<S: Source>(heap: Global, source: &S) -> Result<String, AllocError>
-    ensures { IfOk result (λ t. string_bytes t ≡ source_line (reading source.now).depth) }
+    ensures { IfOk result (λ t. string_bytes t ≡ source_line (S.reading source.now).depth) }
 {
     whole_line(heap, "source", &[source.depth()])
 }
@@ -62,7 +62,7 @@ pub(crate) fn cells_line<K: Kind>(
     head: &str,
     state: &K::State,
 ) -> Result<String, StateFault>
-    ensures { TellsOwn (extent rule.now) (carried state.now) (printed head.now (cells state.now)) (answer string_bytes state_refusal result) }
+    ensures { TellsOwn (K.extent rule.now) (K.carried state.now) (printed head.now (K.cells state.now)) (answer string_bytes state_refusal result) }
 {
     let values = cell_values(heap, rule, state)?;
     match whole_line(heap, head, values.as_slice()) {
@@ -72,7 +72,7 @@ pub(crate) fn cells_line<K: Kind>(
 }
 
 fn cell_values<K: Kind>(heap: Global, rule: &K, state: &K::State) -> Result<Vec<u64>, StateFault>
-    ensures { TellsOwn (extent rule.now) (carried state.now) (cells state.now) (answer vec_items state_refusal result) }
+    ensures { TellsOwn (K.extent rule.now) (K.carried state.now) (K.cells state.now) (answer vec_items state_refusal result) }
 {
     if !rule.owns(state) {
         return Err(StateFault::Foreign);
@@ -94,7 +94,7 @@ pub(crate) fn move_lines<K: Kind>(
     chosen: Move,
     state: &K::State,
 ) -> Result<String, StateFault>
-    ensures { TellsOwn (extent rule.now) (carried state.now) (move_lines chosen (cells state.now)) (answer string_bytes state_refusal result) }
+    ensures { TellsOwn (K.extent rule.now) (K.carried state.now) (move_lines chosen (K.cells state.now)) (answer string_bytes state_refusal result) }
 {
     let after = cells_line(heap, rule, "state", state)?;
     match with_state(heap, chosen, after.as_str()) {

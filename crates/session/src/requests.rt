@@ -84,7 +84,7 @@ impl Draws {
 
     // Goes on after the answer to the request.
     pub fn answered<F: Cause + Drop>(self, reply: &Reply<F>) -> Draws
-        ensures { result ≡ after_answer self (said_by F.Cause.refusal reply.now) }
+        ensures { result ≡ after_answer self (said_by F.refusal reply.now) }
     {
         let Draws {
             count,
@@ -112,7 +112,7 @@ impl Draws {
 
 impl Next {
     fn after<F: Cause + Drop>(request: Request, reply: &Reply<F>) -> Next
-        ensures { result ≡ next_after request (said_by F.Cause.refusal reply.now) }
+        ensures { result ≡ next_after request (said_by F.refusal reply.now) }
     {
         match (request, reply) {
             (Request::Open, Reply::Opened) => Next::Ask(Request::Run),

@@ -28,7 +28,7 @@ pub struct States<K: Kind> {
 impl<K: Kind> States<K> {
     // Both are the bottom.
     pub fn new(heap: Global, rule: &K) -> Result<States<K>, StateFault>
-        ensures { MatchResult result (λ s. (cells s.low ≡ (meaning rule.now).bottom) × (cells s.high ≡ (meaning rule.now).bottom) × (carried s.low ≡ extent rule.now) × (carried s.high ≡ extent rule.now)) (λ e. e ≡ StateFault.Memory) }
+        ensures { MatchResult result (λ s. (K.cells s.low ≡ (K.meaning rule.now).bottom) × (K.cells s.high ≡ (K.meaning rule.now).bottom) × (K.carried s.low ≡ K.extent rule.now) × (K.carried s.high ≡ K.extent rule.now)) (λ e. e ≡ StateFault.Memory) }
     {
         Ok(States {
             low: rule.new_state(heap)?,
@@ -37,7 +37,7 @@ impl<K: Kind> States<K> {
     }
 
     pub fn lines(&self, heap: Global, rule: &K) -> Result<String, StateFault>
-        ensures { Tells (agree (extent rule.now) (carried self.now.low) && agree (extent rule.now) (carried self.now.high)) (state_lines (cells self.now.low) (cells self.now.high)) (answer string_bytes state_refusal result) }
+        ensures { Tells (agree (K.extent rule.now) (K.carried self.now.low) && agree (K.extent rule.now) (K.carried self.now.high)) (state_lines (K.cells self.now.low) (K.cells self.now.high)) (answer string_bytes state_refusal result) }
     {
         states_lines(heap, rule, &self.low, &self.high)
     }
@@ -60,9 +60,9 @@ impl<K: Drawable> States<K> {
         stage: Stage,
         request: Request,
     ) -> Answered<S::Fault>
-        ensures carries { Carries (setting (K.Kind.meaning rule.now) (K.Kind.extent rule.now) (S.Source.reading source.now)) (two (K.Kind.carried self.old.low) (K.Kind.carried self.old.high) (K.Kind.cells self.old.low) (K.Kind.cells self.old.high)) (stage_machine stage) request (response (said_by S.Fault.Cause.refusal result.reply) (stage_machine result.stage) (K.Kind.cells self.new.low) (K.Kind.cells self.new.high)) }
-        ensures tells { Tells (agree (K.Kind.extent rule.now) (K.Kind.carried self.new.low) && agree (K.Kind.extent rule.now) (K.Kind.carried self.new.high)) (answer_lines (said_by S.Fault.Cause.refusal result.reply) (concerned (drawn (stage_machine stage).out) (drawn (stage_machine result.stage).out)) (K.Kind.cells self.new.low) (K.Kind.cells self.new.high)) (answer (option_map string_bytes) state_refusal result.lines) }
-        ensures keeps { (K.Kind.carried self.new.low ≡ K.Kind.carried self.old.low) × (K.Kind.carried self.new.high ≡ K.Kind.carried self.old.high) }
+        ensures carries { Carries (setting (K.meaning rule.now) (K.extent rule.now) (S.reading source.now)) (two (K.carried self.old.low) (K.carried self.old.high) (K.cells self.old.low) (K.cells self.old.high)) (stage_machine stage) request (response (said_by S.Fault.refusal result.reply) (stage_machine result.stage) (K.cells self.new.low) (K.cells self.new.high)) }
+        ensures tells { Tells (agree (K.extent rule.now) (K.carried self.new.low) && agree (K.extent rule.now) (K.carried self.new.high)) (answer_lines (said_by S.Fault.refusal result.reply) (concerned (drawn (stage_machine stage).out) (drawn (stage_machine result.stage).out)) (K.cells self.new.low) (K.cells self.new.high)) (answer (option_map string_bytes) state_refusal result.lines) }
+        ensures keeps { (K.carried self.new.low ≡ K.carried self.old.low) × (K.carried self.new.high ≡ K.carried self.old.high) }
     {
         let before = stage.draw();
         let (stage, reply) = rule.carry_out(stage, request, source, &mut self.low, &mut self.high);

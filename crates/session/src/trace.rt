@@ -20,7 +20,7 @@ pub enum TraceFault<F> {
 }
 
 impl<F: Cause> Cause for TraceFault<F> {
-    ghost refusal = { trace_refusal F.Cause.refusal };
+    ghost refusal = { trace_refusal F.refusal };
 
     fn tell(&self, numbers: &mut Vec<u64>) -> Result<(), AllocError> {
         match self {
@@ -54,9 +54,9 @@ impl<K: Kind> Trace<K> {
         source: &S,
         back: u64,
     ) -> Result<Trace<K>, TraceFault<S::Fault>>
-        ensures starts { Starts (meaning rule.now) (reading source.now) back (answer (λ t. (t.left, cells t.state)) (trace_refusal S.Fault.Cause.refusal) result) }
-        ensures ends { IfOk result (λ t. end_of (meaning rule.now) (reading source.now) (t.left, cells t.state) ≡ lead (meaning rule.now) (window_words (reading source.now) 0 0 back) (meaning rule.now).bottom) }
-        ensures owned { IfOk result (λ t. carried t.state ≡ extent rule.now) }
+        ensures starts { Starts (K.meaning rule.now) (S.reading source.now) back (answer (λ t. (t.left, K.cells t.state)) (trace_refusal S.Fault.refusal) result) }
+        ensures ends { IfOk result (λ t. end_of (K.meaning rule.now) (S.reading source.now) (t.left, K.cells t.state) ≡ lead (K.meaning rule.now) (window_words (S.reading source.now) 0 0 back) (K.meaning rule.now).bottom) }
+        ensures owned { IfOk result (λ t. K.carried t.state ≡ K.extent rule.now) }
     {
         if let Err(fault) = source.word(back) {
             return Err(TraceFault::Word(fault));
@@ -80,10 +80,10 @@ impl<K: Kind> Trace<K> {
         rule: &K,
         source: &S,
     ) -> Result<Option<Move>, TraceFault<S::Fault>>
-        ensures answers { answer (λ m. m) (trace_refusal S.Fault.Cause.refusal) result ≡ next_answer (extent rule.now) (carried self.old.state) (reading source.now) self.old.left }
-        ensures leaves { (self.new.left, cells self.new.state) ≡ after (answer (λ m. m) (trace_refusal S.Fault.Cause.refusal) result) (meaning rule.now) self.old.left (cells self.old.state) }
-        ensures keeps { carried self.new.state ≡ carried self.old.state }
-        ensures ends { end_of (meaning rule.now) (reading source.now) (self.new.left, cells self.new.state) ≡ end_of (meaning rule.now) (reading source.now) (self.old.left, cells self.old.state) }
+        ensures answers { answer (λ m. m) (trace_refusal S.Fault.refusal) result ≡ next_answer (K.extent rule.now) (K.carried self.old.state) (S.reading source.now) self.old.left }
+        ensures leaves { (self.new.left, K.cells self.new.state) ≡ after (answer (λ m. m) (trace_refusal S.Fault.refusal) result) (K.meaning rule.now) self.old.left (K.cells self.old.state) }
+        ensures keeps { K.carried self.new.state ≡ K.carried self.old.state }
+        ensures ends { end_of (K.meaning rule.now) (S.reading source.now) (self.new.left, K.cells self.new.state) ≡ end_of (K.meaning rule.now) (S.reading source.now) (self.old.left, K.cells self.old.state) }
     {
         let place = self.left;
         if place == 0 {

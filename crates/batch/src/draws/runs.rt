@@ -20,8 +20,8 @@ impl OpenDraw {
         low: &mut K::State,
         high: &mut K::State,
     ) -> Outcome<S::Fault>
-        ensures reports { RunReports (setting (meaning rule.now) (extent rule.now) (reading source.now)) (open_machine self) (draw_and_states self (carried low.old) (carried high.old) (cells low.old) (cells high.old)) (outcome_report S.Fault.Cause.refusal result (cells low.new) (cells high.new)) }
-        ensures keeps { (carried low.new ≡ carried low.old) × (carried high.new ≡ carried high.old) }
+        ensures reports { RunReports (setting (K.meaning rule.now) (K.extent rule.now) (S.reading source.now)) (open_machine self) (draw_and_states self (K.carried low.old) (K.carried high.old) (K.cells low.old) (K.cells high.old)) (outcome_report S.Fault.refusal result (K.cells low.new) (K.cells high.new)) }
+        ensures keeps { (K.carried low.new ≡ K.carried low.old) × (K.carried high.new ≡ K.carried high.old) }
     {
         let result = self.try_windows(rule, source, low, high);
         self.into_outcome(result)
@@ -35,9 +35,9 @@ impl OpenDraw {
         low: &mut K::State,
         high: &mut K::State,
     ) -> Result<bool, Fault<S::Fault>>
-        ensures reports { RunReports (setting (meaning rule.now) (extent rule.now) (reading source.now)) (open_machine self.old) (draw_and_states self.old (carried low.old) (carried high.old) (cells low.old) (cells high.old)) (result_report S.Fault.Cause.refusal result self.new (cells low.new) (cells high.new)) }
+        ensures reports { RunReports (setting (K.meaning rule.now) (K.extent rule.now) (S.reading source.now)) (open_machine self.old) (draw_and_states self.old (K.carried low.old) (K.carried high.old) (K.cells low.old) (K.cells high.old)) (result_report S.Fault.refusal result self.new (K.cells low.new) (K.cells high.new)) }
         ensures some { result ≡ Ok true → 1 ≤ self.new.tried }
-        ensures keeps { (carried low.new ≡ carried low.old) × (carried high.new ≡ carried high.old) }
+        ensures keeps { (K.carried low.new ≡ K.carried low.old) × (K.carried high.new ≡ K.carried high.old) }
     {
         let stretch = u64::from(self.batch.stretch);
         for exponent in 0u32..20 {
@@ -57,10 +57,10 @@ impl OpenDraw {
         low: &mut K::State,
         high: &mut K::State,
     ) -> Result<bool, Fault<S::Fault>>
-        ensures reports { result_report S.Fault.Cause.refusal result self.new (cells low.new) (cells high.new) ≡ doubled_report (setting (meaning rule.now) (extent rule.now) (reading source.now)) (open_machine self.old) (draw_and_states self.old (carried low.old) (carried high.old) (cells low.old) (cells high.old)) window }
+        ensures reports { result_report S.Fault.refusal result self.new (K.cells low.new) (K.cells high.new) ≡ doubled_report (setting (K.meaning rule.now) (K.extent rule.now) (S.reading source.now)) (open_machine self.old) (draw_and_states self.old (K.carried low.old) (K.carried high.old) (K.cells low.old) (K.cells high.old)) window }
         ensures some { result ≡ Ok true → 1 ≤ self.new.tried }
         ensures same { self.new.batch ≡ self.old.batch }
-        ensures keeps { (carried low.new ≡ carried low.old) × (carried high.new ≡ carried high.old) }
+        ensures keeps { (K.carried low.new ≡ K.carried low.old) × (K.carried high.new ≡ K.carried high.old) }
     {
         if window <= u64::from(self.tried) || window >= u64::from(self.batch.stretch) {
             return Ok(false);

@@ -26,8 +26,8 @@ impl OpenDraw {
         low: &mut K::State,
         high: &mut K::State,
     ) -> Outcome<S::Fault>
-        ensures reports { outcome_report S.Fault.Cause.refusal result (cells low.new) (cells high.new) ≡ try_report (setting (meaning rule.now) (extent rule.now) (reading source.now)) (open_machine self) (draw_and_states self (carried low.old) (carried high.old) (cells low.old) (cells high.old)) window }
-        ensures keeps { (carried low.new ≡ carried low.old) × (carried high.new ≡ carried high.old) }
+        ensures reports { outcome_report S.Fault.refusal result (K.cells low.new) (K.cells high.new) ≡ try_report (setting (K.meaning rule.now) (K.extent rule.now) (S.reading source.now)) (open_machine self) (draw_and_states self (K.carried low.old) (K.carried high.old) (K.cells low.old) (K.cells high.old)) window }
+        ensures keeps { (K.carried low.new ≡ K.carried low.old) × (K.carried high.new ≡ K.carried high.old) }
     {
         let result = self.attempt(rule, source, window, low, high);
         self.into_outcome(result)
@@ -60,10 +60,10 @@ impl OpenDraw {
         low: &mut K::State,
         high: &mut K::State,
     ) -> Result<bool, Fault<S::Fault>>
-        ensures reports { result_report S.Fault.Cause.refusal result self.new (cells low.new) (cells high.new) ≡ try_report (setting (meaning rule.now) (extent rule.now) (reading source.now)) (open_machine self.old) (draw_and_states self.old (carried low.old) (carried high.old) (cells low.old) (cells high.old)) window }
+        ensures reports { result_report S.Fault.refusal result self.new (K.cells low.new) (K.cells high.new) ≡ try_report (setting (K.meaning rule.now) (K.extent rule.now) (S.reading source.now)) (open_machine self.old) (draw_and_states self.old (K.carried low.old) (K.carried high.old) (K.cells low.old) (K.cells high.old)) window }
         ensures some { result ≡ Ok true → 1 ≤ self.new.tried }
         ensures same { self.new.batch ≡ self.old.batch }
-        ensures keeps { (carried low.new ≡ carried low.old) × (carried high.new ≡ carried high.old) }
+        ensures keeps { (K.carried low.new ≡ K.carried low.old) × (K.carried high.new ≡ K.carried high.old) }
     {
         self.admit(rule, source, window, low, high)?;
         let met = self.lead_both(rule, source, window, low, high)?;
@@ -80,14 +80,14 @@ impl OpenDraw {
         low: &mut K::State,
         high: &mut K::State,
     ) -> Result<bool, Fault<S::Fault>>
-        requires own_low { agree (extent rule.now) (carried low.old) ≡ true }
-        requires own_high { agree (extent rule.now) (carried high.old) ≡ true }
+        requires own_low { agree (K.extent rule.now) (K.carried low.old) ≡ true }
+        requires own_high { agree (K.extent rule.now) (K.carried high.old) ≡ true }
         requires fits { window ≤ self.now.batch.stretch }
-        requires filled { has_place (reading source.now) (draw_place self.now.batch.stretch self.now.batch.opened window) ≡ true }
-        ensures decides { MatchResult result (λ met. Decides met (cells low.new ≡ cells high.new)) (λ _. ⊥) }
-        ensures leads_low { cells low.new ≡ lead (meaning rule.now) (window_words (reading source.now) self.now.batch.stretch self.now.batch.opened window) (meaning rule.now).bottom }
-        ensures leads_high { cells high.new ≡ lead (meaning rule.now) (window_words (reading source.now) self.now.batch.stretch self.now.batch.opened window) (meaning rule.now).top }
-        ensures keeps { (carried low.new ≡ carried low.old) × (carried high.new ≡ carried high.old) }
+        requires filled { has_place (S.reading source.now) (draw_place self.now.batch.stretch self.now.batch.opened window) ≡ true }
+        ensures decides { MatchResult result (λ met. Decides met (K.cells low.new ≡ K.cells high.new)) (λ _. ⊥) }
+        ensures leads_low { K.cells low.new ≡ lead (K.meaning rule.now) (window_words (S.reading source.now) self.now.batch.stretch self.now.batch.opened window) (K.meaning rule.now).bottom }
+        ensures leads_high { K.cells high.new ≡ lead (K.meaning rule.now) (window_words (S.reading source.now) self.now.batch.stretch self.now.batch.opened window) (K.meaning rule.now).top }
+        ensures keeps { (K.carried low.new ≡ K.carried low.old) × (K.carried high.new ≡ K.carried high.old) }
     {
         rule.set_bottom(low)?;
         self.lead_to_zero(rule, source, window, low)?;
@@ -105,7 +105,7 @@ impl OpenDraw {
         low: &K::State,
         high: &K::State,
     ) -> Result<(), Fault<S::Fault>>
-        ensures { answer (λ _. window_words (reading source.now) self.now.batch.stretch self.now.batch.opened window) (fault_refusal S.Fault.Cause.refusal) result ≡ words_of_try (setting (meaning rule.now) (extent rule.now) (reading source.now)) (open_machine self.now) (draw_and_states self.now (carried low.now) (carried high.now) (cells low.now) (cells high.now)) window }
+        ensures { answer (λ _. window_words (S.reading source.now) self.now.batch.stretch self.now.batch.opened window) (fault_refusal S.Fault.refusal) result ≡ words_of_try (setting (K.meaning rule.now) (K.extent rule.now) (S.reading source.now)) (open_machine self.now) (draw_and_states self.now (K.carried low.now) (K.carried high.now) (K.cells low.now) (K.cells high.now)) window }
     {
         if !rule.owns(low) || !rule.owns(high) {
             return Err(Fault::State(StateFault::Foreign));
@@ -128,11 +128,11 @@ impl OpenDraw {
         window: u64,
         state: &mut K::State,
     ) -> Result<(), Fault<S::Fault>>
-        requires owned { agree (extent rule.now) (carried state.old) ≡ true }
+        requires owned { agree (K.extent rule.now) (K.carried state.old) ≡ true }
         requires fits { window ≤ self.now.batch.stretch }
-        requires filled { has_place (reading source.now) (draw_place self.now.batch.stretch self.now.batch.opened window) ≡ true }
-        ensures leads { MatchResult result (λ _. cells state.new ≡ lead (meaning rule.now) (window_words (reading source.now) self.now.batch.stretch self.now.batch.opened window) (cells state.old)) (λ _. ⊥) }
-        ensures keeps { carried state.new ≡ carried state.old }
+        requires filled { has_place (S.reading source.now) (draw_place self.now.batch.stretch self.now.batch.opened window) ≡ true }
+        ensures leads { MatchResult result (λ _. K.cells state.new ≡ lead (K.meaning rule.now) (window_words (S.reading source.now) self.now.batch.stretch self.now.batch.opened window) (K.cells state.old)) (λ _. ⊥) }
+        ensures keeps { K.carried state.new ≡ K.carried state.old }
     {
         for left in (0..window).rev() {
             self.move_once(rule, source, window, left, state)?;
@@ -149,12 +149,12 @@ impl OpenDraw {
         left: u64,
         state: &mut K::State,
     ) -> Result<(), Fault<S::Fault>>
-        requires owned { agree (extent rule.now) (carried state.old) ≡ true }
+        requires owned { agree (K.extent rule.now) (K.carried state.old) ≡ true }
         requires fits { window ≤ self.now.batch.stretch }
         requires within { left < window }
-        requires filled { has_place (reading source.now) (draw_place self.now.batch.stretch self.now.batch.opened window) ≡ true }
-        ensures leads { MatchResult result (λ _. lead (meaning rule.now) (window_words (reading source.now) self.now.batch.stretch self.now.batch.opened left) (cells state.new) ≡ lead (meaning rule.now) (window_words (reading source.now) self.now.batch.stretch self.now.batch.opened (left + 1)) (cells state.old)) (λ _. ⊥) }
-        ensures keeps { carried state.new ≡ carried state.old }
+        requires filled { has_place (S.reading source.now) (draw_place self.now.batch.stretch self.now.batch.opened window) ≡ true }
+        ensures leads { MatchResult result (λ _. lead (K.meaning rule.now) (window_words (S.reading source.now) self.now.batch.stretch self.now.batch.opened left) (K.cells state.new) ≡ lead (K.meaning rule.now) (window_words (S.reading source.now) self.now.batch.stretch self.now.batch.opened (left + 1)) (K.cells state.old)) (λ _. ⊥) }
+        ensures keeps { K.carried state.new ≡ K.carried state.old }
     {
         let word = self.word(source, window, left + 1)?;
         rule.apply(state, word)?;
@@ -169,7 +169,7 @@ impl OpenDraw {
         place: u64,
     ) -> Result<u64, Unfilled<S::Fault>>
         requires { place ≤ 1048576 }
-        ensures { answer (λ w. w) (unfilled_cause S.Fault.Cause.refusal) result ≡ placed (reading source.now) self.now.batch.stretch self.now.batch.opened window place }
+        ensures { answer (λ w. w) (unfilled_cause S.Fault.refusal) result ≡ placed (S.reading source.now) self.now.batch.stretch self.now.batch.opened window place }
     {
         match source.word(self.places_before() + place) {
             Ok(word) => Ok(word),

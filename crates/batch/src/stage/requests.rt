@@ -52,10 +52,10 @@ impl Stage {
         low: &mut K::State,
         high: &mut K::State,
     ) -> (Stage, Reply<S::Fault>)
-        ensures carries { Carries (setting (meaning rule.now) (extent rule.now) (reading source.now)) (two (carried low.old) (carried high.old) (cells low.old) (cells high.old)) (stage_machine self) request (response (said_by S.Fault.Cause.refusal result.1) (stage_machine result.0) (cells low.new) (cells high.new)) }
-        ensures goes_on { (es : List Event) → History (setting (meaning rule.now) (extent rule.now) (reading source.now)) es (stage_machine self) → History (setting (meaning rule.now) (extent rule.now) (reading source.now)) (event request (two (carried low.old) (carried high.old) (cells low.old) (cells high.old)) (response (said_by S.Fault.Cause.refusal result.1) (stage_machine result.0) (cells low.new) (cells high.new)) ∷ es) (stage_machine result.0) }
-        ensures holds { HoldsInEveryHistory (setting (meaning rule.now) (extent rule.now) (reading source.now)) }
-        ensures keeps { (carried low.new ≡ carried low.old) × (carried high.new ≡ carried high.old) }
+        ensures carries { Carries (setting (K.meaning rule.now) (K.extent rule.now) (S.reading source.now)) (two (K.carried low.old) (K.carried high.old) (K.cells low.old) (K.cells high.old)) (stage_machine self) request (response (said_by S.Fault.refusal result.1) (stage_machine result.0) (K.cells low.new) (K.cells high.new)) }
+        ensures goes_on { (es : List Event) → History (setting (K.meaning rule.now) (K.extent rule.now) (S.reading source.now)) es (stage_machine self) → History (setting (K.meaning rule.now) (K.extent rule.now) (S.reading source.now)) (event request (two (K.carried low.old) (K.carried high.old) (K.cells low.old) (K.cells high.old)) (response (said_by S.Fault.refusal result.1) (stage_machine result.0) (K.cells low.new) (K.cells high.new)) ∷ es) (stage_machine result.0) }
+        ensures holds { HoldsInEveryHistory (setting (K.meaning rule.now) (K.extent rule.now) (S.reading source.now)) }
+        ensures keeps { (K.carried low.new ≡ K.carried low.old) × (K.carried high.new ≡ K.carried high.old) }
     {
         histories_are_exact(rule, source);
         self.go_on(request, rule, source, low, high)
@@ -70,11 +70,11 @@ impl Stage {
         low: &mut E::State,
         high: &mut E::State,
     ) -> (Stage, Reply<S::Fault>)
-        ensures carries { Carries (setting (E.Kind.meaning rule.now) (E.Kind.extent rule.now) (S.Source.reading source.now)) (two (E.Kind.carried low.old) (E.Kind.carried high.old) (E.Kind.cells low.old) (E.Kind.cells high.old)) (stage_machine self) request (response (said_by S.Fault.Cause.refusal result.1) (stage_machine result.0) (E.Kind.cells low.new) (E.Kind.cells high.new)) }
-        ensures goes_on { (es : List Event) → History (setting (E.Kind.meaning rule.now) (E.Kind.extent rule.now) (S.Source.reading source.now)) es (stage_machine self) → History (setting (E.Kind.meaning rule.now) (E.Kind.extent rule.now) (S.Source.reading source.now)) (event request (two (E.Kind.carried low.old) (E.Kind.carried high.old) (E.Kind.cells low.old) (E.Kind.cells high.old)) (response (said_by S.Fault.Cause.refusal result.1) (stage_machine result.0) (E.Kind.cells low.new) (E.Kind.cells high.new)) ∷ es) (stage_machine result.0) }
-        ensures holds { HoldsInEveryHistory (setting (E.Kind.meaning rule.now) (E.Kind.extent rule.now) (S.Source.reading source.now)) }
-        ensures shares { EqualShares (E.Kind.meaning rule.now) }
-        ensures keeps { (E.Kind.carried low.new ≡ E.Kind.carried low.old) × (E.Kind.carried high.new ≡ E.Kind.carried high.old) }
+        ensures carries { Carries (setting (E.meaning rule.now) (E.extent rule.now) (S.reading source.now)) (two (E.carried low.old) (E.carried high.old) (E.cells low.old) (E.cells high.old)) (stage_machine self) request (response (said_by S.Fault.refusal result.1) (stage_machine result.0) (E.cells low.new) (E.cells high.new)) }
+        ensures goes_on { (es : List Event) → History (setting (E.meaning rule.now) (E.extent rule.now) (S.reading source.now)) es (stage_machine self) → History (setting (E.meaning rule.now) (E.extent rule.now) (S.reading source.now)) (event request (two (E.carried low.old) (E.carried high.old) (E.cells low.old) (E.cells high.old)) (response (said_by S.Fault.refusal result.1) (stage_machine result.0) (E.cells low.new) (E.cells high.new)) ∷ es) (stage_machine result.0) }
+        ensures holds { HoldsInEveryHistory (setting (E.meaning rule.now) (E.extent rule.now) (S.reading source.now)) }
+        ensures shares { EqualShares (E.meaning rule.now) }
+        ensures keeps { (E.carried low.new ≡ E.carried low.old) × (E.carried high.new ≡ E.carried high.old) }
     {
         shares_are_equal(rule);
         self.carry_out(request, rule, source, low, high)
@@ -88,9 +88,9 @@ impl Stage {
         low: &mut K::State,
         high: &mut K::State,
     ) -> (Stage, Reply<S::Fault>)
-        ensures carries { Carries (setting (meaning rule.now) (extent rule.now) (reading source.now)) (two (carried low.old) (carried high.old) (cells low.old) (cells high.old)) (stage_machine self) request (response (said_by S.Fault.Cause.refusal result.1) (stage_machine result.0) (cells low.new) (cells high.new)) }
-        ensures goes_on { (es : List Event) → History (setting (meaning rule.now) (extent rule.now) (reading source.now)) es (stage_machine self) → History (setting (meaning rule.now) (extent rule.now) (reading source.now)) (event request (two (carried low.old) (carried high.old) (cells low.old) (cells high.old)) (response (said_by S.Fault.Cause.refusal result.1) (stage_machine result.0) (cells low.new) (cells high.new)) ∷ es) (stage_machine result.0) }
-        ensures keeps { (carried low.new ≡ carried low.old) × (carried high.new ≡ carried high.old) }
+        ensures carries { Carries (setting (K.meaning rule.now) (K.extent rule.now) (S.reading source.now)) (two (K.carried low.old) (K.carried high.old) (K.cells low.old) (K.cells high.old)) (stage_machine self) request (response (said_by S.Fault.refusal result.1) (stage_machine result.0) (K.cells low.new) (K.cells high.new)) }
+        ensures goes_on { (es : List Event) → History (setting (K.meaning rule.now) (K.extent rule.now) (S.reading source.now)) es (stage_machine self) → History (setting (K.meaning rule.now) (K.extent rule.now) (S.reading source.now)) (event request (two (K.carried low.old) (K.carried high.old) (K.cells low.old) (K.cells high.old)) (response (said_by S.Fault.refusal result.1) (stage_machine result.0) (K.cells low.new) (K.cells high.new)) ∷ es) (stage_machine result.0) }
+        ensures keeps { (K.carried low.new ≡ K.carried low.old) × (K.carried high.new ≡ K.carried high.old) }
     {
         self.step(request, rule, source, low, high)
     }
@@ -103,8 +103,8 @@ impl Stage {
         low: &mut K::State,
         high: &mut K::State,
     ) -> (Stage, Reply<S::Fault>)
-        ensures carries { Carries (setting (meaning rule.now) (extent rule.now) (reading source.now)) (two (carried low.old) (carried high.old) (cells low.old) (cells high.old)) (stage_machine self) request (response (said_by S.Fault.Cause.refusal result.1) (stage_machine result.0) (cells low.new) (cells high.new)) }
-        ensures keeps { (carried low.new ≡ carried low.old) × (carried high.new ≡ carried high.old) }
+        ensures carries { Carries (setting (K.meaning rule.now) (K.extent rule.now) (S.reading source.now)) (two (K.carried low.old) (K.carried high.old) (K.cells low.old) (K.cells high.old)) (stage_machine self) request (response (said_by S.Fault.refusal result.1) (stage_machine result.0) (K.cells low.new) (K.cells high.new)) }
+        ensures keeps { (K.carried low.new ≡ K.carried low.old) × (K.carried high.new ≡ K.carried high.old) }
     {
         match self {
             Stage::Idle(batch) => when_idle(batch, request),
@@ -116,7 +116,7 @@ impl Stage {
 
 // Does nothing: its promise is for the proof of what calls it.
 fn histories_are_exact<K: Kind, S: Source>(rule: &K, source: &S)
-    ensures holds { HoldsInEveryHistory (setting (meaning rule.now) (extent rule.now) (reading source.now)) }
+    ensures holds { HoldsInEveryHistory (setting (K.meaning rule.now) (K.extent rule.now) (S.reading source.now)) }
 {
     source.sound();
 }
@@ -148,8 +148,8 @@ fn when_open<K: Kind, S: Source>(
     low: &mut K::State,
     high: &mut K::State,
 ) -> (Stage, Reply<S::Fault>)
-    ensures carries { Carries (setting (meaning rule.now) (extent rule.now) (reading source.now)) (two (carried low.old) (carried high.old) (cells low.old) (cells high.old)) (open_machine draw) request (response (said_by S.Fault.Cause.refusal result.1) (stage_machine result.0) (cells low.new) (cells high.new)) }
-    ensures keeps { (carried low.new ≡ carried low.old) × (carried high.new ≡ carried high.old) }
+    ensures carries { Carries (setting (K.meaning rule.now) (K.extent rule.now) (S.reading source.now)) (two (K.carried low.old) (K.carried high.old) (K.cells low.old) (K.cells high.old)) (open_machine draw) request (response (said_by S.Fault.refusal result.1) (stage_machine result.0) (K.cells low.new) (K.cells high.new)) }
+    ensures keeps { (K.carried low.new ≡ K.carried low.old) × (K.carried high.new ≡ K.carried high.old) }
 {
     match request {
         Request::Try(window) => settled(draw.try_window(rule, source, window, low, high), token),

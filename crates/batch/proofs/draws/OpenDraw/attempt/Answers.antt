@@ -25,7 +25,7 @@ returns g c =
     let ends = c.in_ok-met.ensures in
     record {
       reports =
-          as_marked g.Fault.Cause.refusal d _ _ _ c.in_ok-met.met refl
+          as_marked g.S.Fault.Cause.refusal d _ _ _ c.in_ok-met.met refl
           ∙ accepted s (open_machine d) st c.args.window ws _ _ c.in_ok-met.met words ends.leads_low ends.leads_high ends.decides;
       some = λ _. (accepted_when s (open_machine d) st c.args.window ws words).0.fills.some;
       same = refl;

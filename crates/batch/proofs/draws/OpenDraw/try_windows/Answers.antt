@@ -26,15 +26,15 @@ err_is_not_ok r e h k = let z : ◌≡◌ {A = ℕ} 0 1 = cc in omega arith
 
 pub returns-in_err-try_doubled : goal.returns-in_err-try_doubled
 returns-in_err-try_doubled g c =
-    let same = err_same c.from-residual.result _ c.from-residual.ensures.1 in
+    let same = err_same c.from_residual.result _ c.from_residual.ensures.1 in
     let done = c.in_err-try_doubled.ensures in
     record {
       reports =
           early (setting (g.K.Kind.meaning c.args.rule.now) (g.K.Kind.extent c.args.rule.now) (g.S.Source.reading c.args.source.now)) c.args.self.now c.loop-exponent.self _ _ _ _ _ _ _ _
           c.loop-exponent.exponent _ _ c.power_of_two.ensures c.loop-exponent.invariant.1 c.loop-exponent.invariant.0
-          (renamed g.Fault.Cause.refusal _ _ _ c.from-residual.result _ _ same done.reports)
-          (λ apart. refused_is_not_apart _ (sym (ap (λ (r : Report). r.answer) (renamed g.Fault.Cause.refusal c.try_doubled.new.self (g.K.Kind.cells c.try_doubled.new.low) (g.K.Kind.cells c.try_doubled.new.high) _ _ _ same refl)) ∙ apart));
-      some = λ met. absurd (err_is_not_ok c.from-residual.result _ same met);
+          (renamed g.S.Fault.Cause.refusal _ _ _ c.from_residual.result _ _ same done.reports)
+          (λ apart. refused_is_not_apart _ (sym (ap (λ (r : Report). r.answer) (renamed g.S.Fault.Cause.refusal c.try_doubled.new.self (g.K.Kind.cells c.try_doubled.new.low) (g.K.Kind.cells c.try_doubled.new.high) _ _ _ same refl)) ∙ apart));
+      some = λ met. absurd (err_is_not_ok c.from_residual.result _ same met);
       keeps = search rules;
     }
 
@@ -45,7 +45,7 @@ returns-then-branch g c =
       reports =
           early (setting (g.K.Kind.meaning c.args.rule.now) (g.K.Kind.extent c.args.rule.now) (g.S.Source.reading c.args.source.now)) c.args.self.now c.loop-exponent.self _ _ _ _ _ _ _ _
           c.loop-exponent.exponent _ _ c.power_of_two.ensures c.loop-exponent.invariant.1 c.loop-exponent.invariant.0
-          (renamed g.Fault.Cause.refusal _ _ _ (Ok true) _ _ met c.in_ok-try_doubled.ensures.reports) met_is_not_apart;
+          (renamed g.S.Fault.Cause.refusal _ _ _ (Ok true) _ _ met c.in_ok-try_doubled.ensures.reports) met_is_not_apart;
       some = λ _. c.in_ok-try_doubled.ensures.some (ap (λ (b : Bool). Ok b) c.if-branch.true);
       keeps = search rules;
     }
@@ -56,7 +56,7 @@ loop-exponent-preserved g c =
     let done = c.in_ok-try_doubled.ensures in (
       again (setting (g.K.Kind.meaning c.args.rule.now) (g.K.Kind.extent c.args.rule.now) (g.S.Source.reading c.args.source.now)) c.args.self.now c.loop-exponent.self _ _ _ _ _ _ _ _
           c.try_doubled.new.self _ _ _ _ c.loop-exponent.exponent _ c.power_of_two.ensures c.loop-exponent.invariant.1 done.keeps.0 done.keeps.1 c.loop-exponent.invariant.0
-          (renamed g.Fault.Cause.refusal _ _ _ (Ok false) _ _ apart done.reports),
+          (renamed g.S.Fault.Cause.refusal _ _ _ (Ok false) _ _ apart done.reports),
       done.same ∙ c.loop-exponent.invariant.1,
       done.keeps.0 ∙ c.loop-exponent.invariant.2,
       done.keeps.1 ∙ c.loop-exponent.invariant.3,

@@ -14,12 +14,12 @@ pub returns-in-Idle : goal.returns-in-Idle
 returns-in-Idle g c =
     let s = setting (g.K.Kind.meaning c.args.rule.now) (g.K.Kind.extent c.args.rule.now) (g.S.Source.reading c.args.source.now) in
     let t = two (g.K.Kind.carried c.args.low.now) (g.K.Kind.carried c.args.high.now) (g.K.Kind.cells c.args.low.now) (g.K.Kind.cells c.args.high.now) in
-    let why = g.Fault.Cause.refusal in
+    let why = g.S.Fault.Cause.refusal in
     record { carries = in_stage s t c.args.self _ c.args.request (states_kept (said_by why c.when_idle.result.1) (stage_machine c.when_idle.result.0) t) c.in-Idle.is (c.when_idle.ensures why t); keeps = search rules }
 
 pub returns-in-Met : goal.returns-in-Met
 returns-in-Met g c =
     let s = setting (g.K.Kind.meaning c.args.rule.now) (g.K.Kind.extent c.args.rule.now) (g.S.Source.reading c.args.source.now) in
     let t = two (g.K.Kind.carried c.args.low.now) (g.K.Kind.carried c.args.high.now) (g.K.Kind.cells c.args.low.now) (g.K.Kind.cells c.args.high.now) in
-    let why = g.Fault.Cause.refusal in
+    let why = g.S.Fault.Cause.refusal in
     record { carries = in_stage s t c.args.self _ c.args.request (states_kept (said_by why c.when_met.result.1) (stage_machine c.when_met.result.0) t) c.in-Met.is (c.when_met.ensures why t); keeps = search rules }
