@@ -1,5 +1,5 @@
 -- In every history answers are exact, and agreeing histories sample alike.
-use Rattle.std.proofs.Common.{◌≡◌, ℕ, ◌⊎◌, [], ◌∷◌, sym, ap, ◌∙◌, subst, ⊎_elim}
+use Rattle.std.proofs.Common.{◌≡◌, ℕ, [], ◌∷◌, sym, ap, ◌∙◌, subst, ⊎_elim}
 use Rattle.coupling.proofs.Samples.{agreeing_sources}
 use Rattle.coupling.specs.Lead.{met_in, outcome}
 use Rattle.coupling.specs.Windows.{CanFill, window_words}

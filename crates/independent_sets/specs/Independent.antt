@@ -1,5 +1,5 @@
 -- What an independent set of a grid means: cells 0 (empty) and 1 (occupied), and the step by a word.
-use Rattle.std.specs.Prelude.{ℕ, ◌+◌, ◌/◌, ◌%◌, ◌^◌, ◌≤◌, Bool, cond, ◌&&◌, ◌||◌, List, map, length, set, MatchBool, filter, ◌==◌, nat_eq, slice_index, slice_set}
+use Rattle.std.specs.Prelude.{ℕ, ◌+◌, ◌/◌, ◌%◌, ◌^◌, ◌≤◌, Bool, cond, ◌&&◌, ◌||◌, List, map, length, MatchBool, filter, ◌==◌, nat_eq, slice_index, slice_set}
 use Rattle.std.specs.List.{range_with_len, list_all}
 use Rattle.lattice.specs.Counts.{two_way}
 use Rattle.lattice.specs.Grid.{Extent, cell_count, neighbours}

@@ -1,14 +1,13 @@
 -- A two-way step whose two ways undo one another keeps the exchange law where the threshold is half of all levels.
 -- A word is its upper half, which fixes the site, and its level; at each site the levels below the threshold count for
 -- one way and the others for the other.
-use Rattle.std.proofs.Common.{◌≡◌, ℕ, zero, suc, ◌+◌, ◌-◌, ◌*◌, ◌/◌, ◌^◌, ◌<◌, ◌≤◌, Bool, true, false, cond, ltb, ◌⊎◌, List, sym, refl, ap, ◌∙◌, subst, ap₂, ⊎_elim, add-zero, add_assoc, add-suc, suc-mul, mul_comm, mul-lt-mul_of_pos_right, zero-mul, arith}
+use Rattle.std.proofs.Common.{◌≡◌, ℕ, zero, suc, ◌+◌, ◌-◌, ◌*◌, ◌/◌, ◌^◌, ◌<◌, ◌≤◌, Bool, true, false, cond, ltb, List, sym, refl, ap, ◌∙◌, subst, ap₂, ⊎_elim, add-zero, add_assoc, add-suc, suc-mul, mul_comm, mul-lt-mul_of_pos_right, zero-mul, arith}
 use Rattle.std.proofs.lemmas.Nat.{div_below, div-mul-add, mod-mul-add}
 use Rattle.std.proofs.lemmas.Slice.Eq.{bytes_eq-Decides}
 use Rattle.std.proofs.lemmas.Bool.{cases_Bool, lt-ltb, le-ltb, both_ways}
 use Rattle.std.specs.Str.{bytes_eq}
 use Rattle.lattice.specs.Counts.{sum_below, same_as, Exchanges, two_way}
 use Rattle.lattice.specs.Kind.{Meaning, Lawful}
-use Rattle.lattice.specs.Words.{site, level}
 
 pub sum_same : (n : ℕ) (f g : ℕ → ℕ) → ((k : ℕ) → k < n → f k ≡ g k) → sum_below n f ≡ sum_below n g
 unfolding sum_below
