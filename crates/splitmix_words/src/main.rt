@@ -9,7 +9,7 @@ use std::{fs, io};
 use task::numerals::{hex_bytes, number};
 use task::words::Words;
 
-#[derive(Drop)]
+#[derive(Debug, Drop)]
 enum Failed {
     Memory,
     Io(io::Error),

@@ -1,14 +1,13 @@
 -- Bytes read from hex, one after another.
-use Rattle.std.proofs.Common.{◌≡◌, ℕ, ◌+◌, ◌*◌, ◌/◌, ◌%◌, ◌<◌, Bool, List, [], ◌∷◌, ◌++◌, map, Some, None, codes, Decides, Option, refl, ap, inl, inr, arith}
-use Rattle.std.proofs.lemmas.Slice.Eq.{slice_eq-Decides, bytes_eq-Decides}
+use Rattle.std.proofs.Common.{◌≡◌, ℕ, ◌+◌, ◌*◌, ◌/◌, ◌%◌, ◌<◌, List, [], ◌∷◌, ◌++◌, map, Some, None, codes, Option, refl, ap, inl, inr, arith}
+use Rattle.std.proofs.lemmas.Slice.Eq.{bytes_eq-Decides}
 use Rattle.std.proofs.lemmas.List.{append_assoc}
 use Rattle.std.proofs.lemmas.Bool.{cases_Bool}
-use Rattle.std.proofs.lemmas.Bool.Decides.{nat_tests, not_from_Decides, same_from_decides, Decides-eqb}
+use Rattle.std.proofs.lemmas.Bool.Decides.{nat_tests, not_from_Decides}
 use Rattle.std.specs.Str.{bytes_eq}
 use Rattle.std.specs.Char.{digit_char, to_ascii_lowercase}
 use Rattle.std.specs.List.{AllByRecursion as All}
 use Rattle.task.specs.Laws.{hex_text, ReadsHex}
-use Rattle.std.specs.Cmp.Lexicographic.{Matches}
 use Rattle.std.specs.Option.{option_map}
 use Rattle.task.specs.Text.{both, hex_digit, hex_byte, hex_bytes, hex_pairs}
 
@@ -69,7 +68,3 @@ hex_law w =
       | inl e ↦ rw e (inr (same.0 e, refl))
       | inr e ↦ rw e (law_from w (hex_pairs w) refl (not_from_Decides _ same e))
     ]
-
--- What the comparison with a dash says.
-pub dash_test : (w : List ℕ) (r : Bool) → Matches (λ (a b : ℕ) (t : Bool). Decides t (a ≡ b)) w (codes "-") r → r ≡ bytes_eq w (codes "-")
-dash_test w r told = same_from_decides r _ (slice_eq-Decides Decides-eqb w (codes "-") r told) (bytes_eq-Decides w (codes "-"))

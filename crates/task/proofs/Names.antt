@@ -1,9 +1,6 @@
 -- A word looked up in the table of names.
-use Rattle.std.proofs.Common.{◌≡◌, ℕ, ◌+◌, ◌<◌, Bool, true, false, List, ◌∷◌, map, length, get_or, drop, Some, Decides, sym, ap, ◌∙◌, Bor}
-use Rattle.std.proofs.lemmas.Slice.Eq.{slice_eq-Decides, bytes_eq-Decides}
+use Rattle.std.proofs.Common.{◌≡◌, ℕ, ◌+◌, ◌<◌, Bool, true, false, List, ◌∷◌, map, length, get_or, drop, Some, sym, ap, ◌∙◌, Bor}
 use Rattle.std.proofs.lemmas.List.{drop-map, drop_more}
-use Rattle.std.proofs.lemmas.Bool.Decides.{same_from_decides, Decides-eqb}
-use Rattle.std.specs.Cmp.Lexicographic.{Matches}
 use Rattle.std.specs.Str.{bytes_eq}
 use Rattle.task.specs.Lines.{among, meant}
 use Rattle.task.specs.declared.directives.Name.{Name}
@@ -11,11 +8,7 @@ use Rattle.task.specs.declared.directives.Name.{Name}
 abbrev pub Entry : Type 0
 Entry = Bor (List ℕ) × Name
 
-module _ (es : List Entry) (w : List ℕ) (i : ℕ) (d : Entry) (r : Bool) (within : i < length es)
-    (told : Matches (λ (a b : ℕ) (t : Bool). Decides t (a ≡ b)) (get_or es i d).0.now w r) where
-  test : r ≡ bytes_eq (get_or es i d).0.now w
-  test = same_from_decides r _ (slice_eq-Decides Decides-eqb _ w r told) (bytes_eq-Decides (get_or es i d).0.now w)
-
+module _ (es : List Entry) (w : List ℕ) (i : ℕ) (d : Entry) (r : Bool) (within : i < length es) (test : r ≡ bytes_eq (get_or es i d).0.now w) where
   at_entry : among (drop i (map meant es)) w ≡ among (meant (get_or es i d) ∷ drop (i + 1) (map meant es)) w
   at_entry =
       ap (λ ns. among ns w) (drop-map meant i es ∙ ap (map meant) (drop_more es i d within) ∙ ap (λ ns. meant (get_or es i d) ∷ ns) (sym (drop-map meant (i + 1) es)))

@@ -10,7 +10,6 @@ use Rattle.task.specs.declared.line.Directive.TheVariants.{Spins, Partitions, Se
 use Rattle.task.specs.declared.line.Expected.{Expected}
 use Rattle.task.specs.declared.line.Expected.TheVariants.{Directive as a_directive}
 use Rattle.task.specs.declared.directives.Name.{Name}
-use Rattle.task.specs.declared.directives.Name.TheVariants as Name
 use Rattle.task.specs.declared.line.Reading as reading
 
 -- What a directive asks for.

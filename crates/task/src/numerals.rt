@@ -51,7 +51,7 @@ fn hex_reads_back(word: &[u8])
 fn is_dash(word: &[u8]) -> bool
     ensures { result ≡ bytes_eq word.now (codes "-") }
 {
-    word == b"-"
+    word == b"-".as_slice()
 }
 
 fn hex_pairs(heap: Global, mut digits: &[u8]) -> Result<Option<Vec<u8>>, AllocError>

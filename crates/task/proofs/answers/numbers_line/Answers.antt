@@ -13,7 +13,7 @@ more head numbers before after i within pushed told =
     ∙ ap (λ (first : List ℕ). head ++ flat_map spaced first) (sym (take_more numbers i 0 within))
 
 pub loop-number-preserved : goal.loop-number-preserved
-loop-number-preserved c = more c.args.head.now c.args.numbers.now _ _ c.loop-number.number-index c.loop-number-test.true c.in-ok-push-number.ensures c.loop-number.invariant
+loop-number-preserved c = more c.args.head.now c.args.numbers.now _ _ c.loop-number.number-index c.loop-number-test.true c.in_ok-push_number.ensures c.loop-number.invariant
 
 pub returns : goal.returns
 returns c = c.loop-number.invariant ∙ ap (λ (told : List ℕ). c.args.head.now ++ flat_map spaced told) (take_all c.loop-number.number-index c.args.numbers.now c.loop-number-test.false)

@@ -21,6 +21,6 @@ nine xs long =
 
 pub returns : goal.returns
 returns c =
-    let xs = c.in-ok-fields.fields in
+    let xs = c.in_ok-fields.fields in
     let long : length xs ≡ 11 = omega arith in
-    ap (λ ts. Ok (spins (get_or xs 0 0) (get_or xs 1 0) ts)) (nine xs long) ∙ ap (read_as (λ ns. spins (get_or ns 0 0) (get_or ns 1 0) (drop 2 ns))) c.in-ok-fields.ensures
+    ap (λ ts. Ok (spins (get_or xs 0 0) (get_or xs 1 0) ts)) (nine xs long) ∙ ap (read_as (λ ns. spins (get_or ns 0 0) (get_or ns 1 0) (drop 2 ns))) c.in_ok-fields.ensures

@@ -10,21 +10,21 @@ loop-slot-init g c =
     let whole : g.row.N - 0 ≡ g.row.N = omega arith in
     (length-replicate g.row.N 0, rw whole (behind_none g.row.N (words (left c.args.rest))))
 
-pub returns-in-err-slot : goal.returns-in-err-slot
-returns-in-err-slot g c =
-    let p = err_from_is_err_and c.from-residual.result c.from-residual.ensures.1 in
+pub returns-in_err-slot : goal.returns-in_err-slot
+returns-in_err-slot g c =
+    let p = err_from_is_err_and c.from_residual.result c.from_residual.ensures.1 in
     let i = c.loop-slot.slot-index in
-    let stop = behind_stops g.row.N i (words (left c.loop-slot.rest)) (take i c.loop-slot.slot-items) c.in-err-slot.field-0.0 (omega arith) c.in-err-slot.ensures.value in
+    let stop = behind_stops g.row.N i (words (left c.loop-slot.rest)) (take i c.loop-slot.slot-items) c.in_err-slot.field-0.0 (omega arith) c.in_err-slot.ensures.value in
     p.1 ∙ ap (λ e. Err e) p.2 ∙ stop ∙ c.loop-slot.invariant.1
 
 pub loop-slot-preserved : goal.loop-slot-preserved
 loop-slot-preserved g c =
     let i = c.loop-slot.slot-index in
     let xs = c.loop-slot.slot-items in
-    let x = c.in-ok-slot.field-0 in
+    let x = c.in_ok-slot.field-0 in
     let within : i < length xs = omega arith in
-    let ws = words (left c.next-number.new.rest) in
-    let step = behind_more g.row.N i x (words (left c.loop-slot.rest)) ws (take i xs) (omega arith) c.in-ok-slot.ensures.value c.in-ok-slot.ensures.more in
+    let ws = words (left c.next_number.new.rest) in
+    let step = behind_more g.row.N i x (words (left c.loop-slot.rest)) ws (take i xs) (omega arith) c.in_ok-slot.ensures.value c.in_ok-slot.ensures.more in
     (length-set xs i x ∙ c.loop-slot.invariant.0, ap (behind (g.row.N - (i + 1)) ws) (take_more_set xs i x within) ∙ step ∙ c.loop-slot.invariant.1)
 
 pub returns : goal.returns
@@ -32,11 +32,11 @@ returns g c =
     let i = c.loop-slot.slot-index in
     let xs = c.loop-slot.slot-items in
     let all = take_all i xs (omega arith) in
-    ap (λ ys. Ok ys) (sym all) ∙ behind_all g.row.N i (words (left c.loop-slot.rest)) (take i xs) (Ok c.in-ok-end.field-0) (omega arith) c.in-ok-end.ensures ∙ c.loop-slot.invariant.1
+    ap (λ ys. Ok ys) (sym all) ∙ behind_all g.row.N i (words (left c.loop-slot.rest)) (take i xs) (Ok c.in_ok-end.field-0) (omega arith) c.in_ok-end.ensures ∙ c.loop-slot.invariant.1
 
-pub returns-in-err-end : goal.returns-in-err-end
-returns-in-err-end g c =
-    let p = err_from_is_err_and c.from-residual-in-err-end.result c.from-residual-in-err-end.ensures.1 in
+pub returns-in_err-end : goal.returns-in_err-end
+returns-in_err-end g c =
+    let p = err_from_is_err_and c.from_residual-in_err-end.result c.from_residual-in_err-end.ensures.1 in
     let i = c.loop-slot.slot-index in
-    let stop = behind_all g.row.N i (words (left c.loop-slot.rest)) (take i c.loop-slot.slot-items) (Err c.in-err-end.field-0.0) (omega arith) c.in-err-end.ensures in
+    let stop = behind_all g.row.N i (words (left c.loop-slot.rest)) (take i c.loop-slot.slot-items) (Err c.in_err-end.field-0.0) (omega arith) c.in_err-end.ensures in
     p.1 ∙ ap (λ e. Err e) p.2 ∙ stop ∙ c.loop-slot.invariant.1

@@ -6,19 +6,19 @@ use Rattle.task.specs.Text.{solid, words, first}
 use Rattle.task.proofs.Cuts.{word_is, rest_is, no_word, a_word}
 use Rattle.task.proofs.words.cut_word.Goals as goal
 
-pub split-at-requires : goal.split-at-requires
-split-at-requires c = search (rules, prefix_len-le-length solid)
+pub split_at-requires : goal.split_at-requires
+split_at-requires c = search (rules, prefix_len-le-length solid)
 
-pub returns-then-is-empty : goal.returns-then-is-empty
-returns-then-is-empty c =
-    let w = word_is c.args.text.now _ _ c.trim-start-solid-text.ensures c.word-len.ensures _ c.split-at.ensures.front in
-    let r = rest_is c.args.text.now _ _ c.trim-start-solid-text.ensures c.word-len.ensures _ c.split-at.ensures.back in
-    let none = no_word c.args.text.now (sym w ∙ nil_from_length _ (eqb-true _ 0 (sym c.if-is-empty.ensures))) in
+pub returns-then-is_empty : goal.returns-then-is_empty
+returns-then-is_empty c =
+    let w = word_is c.args.text.now _ _ c.trim_start-solid_text.ensures c.word_len.ensures _ c.split_at.ensures.front in
+    let r = rest_is c.args.text.now _ _ c.trim_start-solid_text.ensures c.word_len.ensures _ c.split_at.ensures.back in
+    let none = no_word c.args.text.now (sym w ∙ nil_from_length _ (eqb-true _ 0 (sym c.if-is_empty.ensures))) in
     record { word = sym (ap first none.0); rest = r; more = ap words r ∙ none.1 ∙ sym (ap (drop 1) none.0) }
 
-pub returns-else-is-empty : goal.returns-else-is-empty
-returns-else-is-empty c =
-    let w = word_is c.args.text.now _ _ c.trim-start-solid-text.ensures c.word-len.ensures _ c.split-at.ensures.front in
-    let r = rest_is c.args.text.now _ _ c.trim-start-solid-text.ensures c.word-len.ensures _ c.split-at.ensures.back in
-    let some = a_word c.args.text.now (omega (arith, ap length w, eqb-false _ 0 (sym c.if-is-empty.ensures))) in
+pub returns-else-is_empty : goal.returns-else-is_empty
+returns-else-is_empty c =
+    let w = word_is c.args.text.now _ _ c.trim_start-solid_text.ensures c.word_len.ensures _ c.split_at.ensures.front in
+    let r = rest_is c.args.text.now _ _ c.trim_start-solid_text.ensures c.word_len.ensures _ c.split_at.ensures.back in
+    let some = a_word c.args.text.now (omega (arith, ap length w, eqb-false _ 0 (sym c.if-is_empty.ensures))) in
     record { word = cc; rest = r; more = cc }

@@ -6,5 +6,5 @@ use Rattle.task.proofs.words.trim.Goals as goal
 
 pub returns : goal.returns
 returns c =
-    let e : c.trim-end.result.now ≡ trimmed c.args.text.now = search rules in
+    let e : c.trim_end.result.now ≡ trimmed c.args.text.now = search rules in
     record { value = e; law = subst (Trims c.args.text.now) (sym e) (trims c.args.text.now) }

@@ -7,8 +7,8 @@ use Rattle.task.proofs.words.trim_end.Goals as goal
 pub loop-last-preserved : goal.loop-last-preserved
 loop-last-preserved c = search (rules, past_back_yes blank)
 
-pub returns-then-not-is-blank : goal.returns-then-not-is-blank
-returns-then-not-is-blank c = search (rules, past_back_no blank, reverse-reverse)
+pub returns-then-not-is_blank : goal.returns-then-not-is_blank
+returns-then-not-is_blank c = search (rules, past_back_no blank, reverse-reverse)
 
-pub returns-in-default : goal.returns-in-default
-returns-in-default c = search (rules, nil_from_length)
+pub returns-in_default : goal.returns-in_default
+returns-in_default c = search (rules, nil_from_length)

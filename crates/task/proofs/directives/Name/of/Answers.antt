@@ -3,4 +3,4 @@ use Rattle.task.proofs.directives.Name.of.Goals as goal
 
 pub returns : goal.returns
 unfolding name_of
-returns c = c.look-up.ensures
+returns c = c.look_up.ensures
