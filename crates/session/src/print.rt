@@ -25,7 +25,7 @@ pub(crate) fn whole_line(heap: Global, head: &str, numbers: &[u64]) -> Result<St
 
 // The numbers of a refusal, or none for want of memory, which has no numbers.
 pub(crate) fn refused_line<C: Cause>(heap: Global, cause: &C) -> Result<Option<String>, AllocError>
-    ensures { IfOk result (λ o. option_map string_bytes o ≡ refused_line (refusal cause.now)) }
+    ensures { IfOk result (λ o. option_map string_bytes o ≡ refused_line (C.refusal cause.now)) }
 {
     let mut numbers = Vec::new(heap);
     cause.tell(&mut numbers)?;
