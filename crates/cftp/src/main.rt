@@ -23,21 +23,21 @@ A task has one directive a line:
   sets ROWS COLUMNS     the rule: independent sets
   seed N                the source: the counter generator with this seed
   recording HEX         the source: these bytes, eight a word
-  recording_file PATH   the source: the bytes of a file
+  recording-file PATH   the source: the bytes of a file
   trace T               move the bottom by the words of places T .. 1
   stretch S             a batch of draws, with S places of the source each
   open                  begin the next draw
   try T                 move bottom and top by the words of its places T .. 1
   run                   try 1, 2, 4, 8 .. and at last S, until the two meet
   close                 end a draw that has met
-  give_up               end a draw that has not met
-  draws N               N times: open, run, and close or give_up
+  give-up               end a draw that has not met
+  draws N               N times: open, run, and close or give-up
   states                print the two states
   tally                 print how many draws were opened, met and given up
 Empty lines and lines that begin with # are skipped. docs/TASKS.md has the whole of it.";
 
 // The program ends with status 1. What went wrong has been printed, unless printing failed.
-#[derive(Drop)]
+#[derive(Debug, Drop)]
 enum Ended {
     Failed,
 }

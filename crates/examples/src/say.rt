@@ -4,7 +4,7 @@ use std::alloc::{AllocError, AllocFailed};
 use std::io;
 use task::answers::numbers_line;
 
-#[derive(Drop)]
+#[derive(Debug, Drop)]
 pub enum Failed {
     Memory,
     Output(io::Error),
