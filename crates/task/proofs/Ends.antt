@@ -3,7 +3,7 @@ use Rattle.std.proofs.Common.{◌≡◌, ℕ, Bool, true, false, List, [], ◌�
 use Rattle.std.proofs.ByRecursion.{All-push}
 use Rattle.std.proofs.lemmas.List.{reverse-append, reverse-reverse}
 use Rattle.std.proofs.lemmas.Bool.{cases_Bool}
-use Rattle.std.specs.List.{AllByRecursion as All}
+use Rattle.std.specs.List.{AllByRecursion}
 use Rattle.task.specs.Laws.{Blank, Solid, Trims}
 use Rattle.task.specs.Text.{blank, past, trimmed}
 use Rattle.task.proofs.Cuts.{lead}
@@ -15,7 +15,7 @@ module _ (test : ℕ → Bool) where
   pub past_back_no : (xs : List ℕ) (b : ℕ) → test b ≡ false → past test (reverse (xs ++ b ∷ [])) ≡ reverse (xs ++ b ∷ [])
   past_back_no xs b e = rw (reverse-append, e)
 
-all_reverse : (P : ℕ → Type 0) (xs : List ℕ) → All P xs → All P (reverse xs)
+all_reverse : (P : ℕ → Type 0) (xs : List ℕ) → AllByRecursion P xs → AllByRecursion P (reverse xs)
 all_reverse P [] h = tt
 all_reverse P (x ∷ xs) h = rw (reverse-append (x ∷ []) xs) (All-push P (reverse xs) x (all_reverse P xs h.1) h.0)
 
@@ -24,7 +24,7 @@ lead_past : (bs : List ℕ) → bs ≡ lead blank bs ++ past blank bs
 lead_past [] = refl
 lead_past (b ∷ bs) = elim (cases_Bool (blank b)) [ inl e ↦ simp e (ap (λ t. b ∷ t) (lead_past bs)) | inr e ↦ simp e ]
 
-all_lead : (bs : List ℕ) → All Blank (lead blank bs)
+all_lead : (bs : List ℕ) → AllByRecursion Blank (lead blank bs)
 all_lead [] = tt
 all_lead (b ∷ bs) = elim (cases_Bool (blank b)) [ inl e ↦ simp e (refl, all_lead bs) | inr e ↦ simp e tt ]
 

@@ -6,7 +6,7 @@ use Rattle.std.proofs.lemmas.Bool.{cases_Bool}
 use Rattle.std.proofs.lemmas.Bool.Decides.{nat_tests, not_from_Decides}
 use Rattle.std.specs.Str.{bytes_eq}
 use Rattle.std.specs.Char.{digit_char, to_ascii_lowercase}
-use Rattle.std.specs.List.{AllByRecursion as All}
+use Rattle.std.specs.List.{AllByRecursion}
 use Rattle.task.specs.Laws.{hex_text, ReadsHex}
 use Rattle.std.specs.Option.{option_map}
 use Rattle.task.specs.Text.{both, hex_digit, hex_byte, hex_bytes, hex_pairs}
@@ -43,7 +43,7 @@ pairs_write (a ∷ b ∷ cs) bs e =
     let below : q.1 ≡ p.0 % 16 = omega arith in
     rw (p.4, high.1, low.1, above, below, pairs_write cs p.1 p.3)
 
-pairs_read : (bs w : List ℕ) → All (λ b. b < 256) bs → map to_ascii_lowercase w ≡ hex_text bs → hex_pairs w ≡ Some bs
+pairs_read : (bs w : List ℕ) → AllByRecursion (λ b. b < 256) bs → map to_ascii_lowercase w ≡ hex_text bs → hex_pairs w ≡ Some bs
 pairs_read [] [] small e = refl
 pairs_read [] (a ∷ w) small e = let no : ◌≡◌ {A = ℕ} 0 1 = cc in absurd (omega arith)
 pairs_read (x ∷ bs) [] small e = let no : ◌≡◌ {A = ℕ} 0 1 = cc in absurd (omega arith)

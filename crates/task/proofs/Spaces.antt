@@ -1,7 +1,7 @@
 -- The words of a line fill it, but for blanks.
 use Rattle.std.proofs.Common.{◌≡◌, ℕ, List, [], ◌∷◌, ◌++◌, filter, refl, ap, inl, inr, arith}
 use Rattle.std.proofs.lemmas.Bool.{cases_Bool}
-use Rattle.std.specs.List.{AllByRecursion as All}
+use Rattle.std.specs.List.{AllByRecursion}
 use Rattle.task.specs.Laws.{Blank, Solid, Parted, Spaced}
 use Rattle.task.specs.Text.{blank, pieces, some, words}
 
@@ -9,7 +9,7 @@ use Rattle.task.specs.Text.{blank, pieces, some, words}
 pub record Pieced (text p : List ℕ) (ws : List (List ℕ)) : Type 0 where
   pub after : List ℕ
   pub whole : text ≡ p ++ after
-  pub solid_piece : All Solid p
+  pub solid_piece : AllByRecursion Solid p
   pub parted : Parted after
   pub spaced : Spaced after ws
 

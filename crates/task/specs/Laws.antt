@@ -1,7 +1,7 @@
 -- What holds of the words, paths and bytes of a line, however they are found.
 use Rattle.std.specs.Prelude.{◌≡◌, ℕ, ◌/◌, ◌%◌, ◌<◌, true, false, ◌⊎◌, List, [], ◌∷◌, ◌++◌, map, length, Some, None, codes, Option}
 use Rattle.std.specs.Char.{digit_char, to_ascii_lowercase}
-use Rattle.std.specs.List.{flat_map, AllByRecursion as All}
+use Rattle.std.specs.List.{flat_map, AllByRecursion}
 use Rattle.task.specs.Text.{blank}
 
 abbrev pub Blank : ℕ → Type 0
@@ -12,7 +12,7 @@ Solid b = blank b ≡ false
 
 -- A word holds something, and no blank.
 abbrev pub Word : List ℕ → Type 0
-Word w = (0 < length w) × All Solid w
+Word w = (0 < length w) × AllByRecursion Solid w
 
 -- Nothing, or a text that begins with a blank.
 abbrev pub Parted : List ℕ → Type 0
@@ -21,17 +21,17 @@ Parted (b ∷ bs) = Blank b
 
 -- The line is these words in their order, with blanks around them and at least one between two words.
 abbrev pub Spaced : List ℕ → List (List ℕ) → Type 0
-Spaced line [] = All Blank line
+Spaced line [] = AllByRecursion Blank line
 Spaced line (w ∷ ws) =
-    (before : List ℕ) × (after : List ℕ) × (line ≡ before ++ (w ++ after)) × All Blank before × Word w × Parted after × Spaced after ws
+    (before : List ℕ) × (after : List ℕ) × (line ≡ before ++ (w ++ after)) × AllByRecursion Blank before × Word w × Parted after × Spaced after ws
 
 -- The text is t with blanks around it, and t itself neither begins nor ends with a blank.
 pub record Trims (text t : List ℕ) : Type 0 where
   pub before : List ℕ
   pub after : List ℕ
   pub whole : text ≡ before ++ (t ++ after)
-  pub blank_before : All Blank before
-  pub blank_after : All Blank after
+  pub blank_before : AllByRecursion Blank before
+  pub blank_after : AllByRecursion Blank after
   pub begins : (b : ℕ) (bs : List ℕ) → t ≡ b ∷ bs → Solid b
   pub ends : (bs : List ℕ) (b : ℕ) → t ≡ bs ++ b ∷ [] → Solid b
 
@@ -46,4 +46,4 @@ Writes w bytes = (map to_ascii_lowercase w ≡ hex_text bytes) ⊎ ((w ≡ codes
 -- The bytes that the word writes, or nothing where it writes none at all.
 abbrev pub ReadsHex : List ℕ → Option (List ℕ) → Type 0
 ReadsHex w (Some bytes) = Writes w bytes
-ReadsHex w None = (bytes : List ℕ) → All (λ b. b < 256) bytes → Writes w bytes → ⊥
+ReadsHex w None = (bytes : List ℕ) → AllByRecursion (λ b. b < 256) bytes → Writes w bytes → ⊥
