@@ -5,9 +5,17 @@ use Rattle.std.proofs.lemmas.List.FromFn.{get_or-map-range_with_len, length-map-
 use Rattle.std.proofs.lemmas.List.{get_or_past, get_or-set_other, get_or-set_same, set_past}
 use Rattle.std.proofs.lemmas.Bool.{cases_Bool, cases_eq, cases_lt, cond_both}
 use Rattle.lattice.specs.Grid.{Extent, cell_count}
-use Rattle.independent_sets.specs.Independent.{checkerboard, checkerwise, white}
+use Rattle.lattice.specs.Kind.{Meaning}
+use Rattle.independent_sets.specs.Independent.{checkerboard, independent_sets, white}
 use Rattle.independent_sets.specs.Apart.{Apart, occupied_within}
 use Rattle.independent_sets.specs.Beside.{neighbour_other, neighbour_within}
+
+-- The order cell by cell. The laws are proved of it, and hold of the order of independent sets because that says the same.
+abbrev pub Turned : Extent → List ℕ → List ℕ → Type 0
+Turned e x y = (i : ℕ) → MatchBool (white e i) (slice_index x i ≤ slice_index y i) (slice_index y i ≤ slice_index x i)
+
+abbrev pub turned_sets : Extent → Meaning
+turned_sets e = record (independent_sets e) { below = Turned e }
 
 -- comparisons that turn round on the black cells
 pub when_from : (t : Bool) (P Q : Type 0) → (t ≡ true → P) → (t ≡ false → Q) → MatchBool t P Q
@@ -23,7 +31,7 @@ turned_along true a b c low high = le_trans low high
 turned_along false a b c low high = le_trans high low
 
 -- the same change keeps the order where the new values keep it
-pub checkerwise_set : (e : Extent) (x y : List ℕ) (i v w : ℕ) → length x ≡ length y → MatchBool (white e i) (v ≤ w) (w ≤ v) → checkerwise e x y → checkerwise e (slice_set x i v) (slice_set y i w)
+pub checkerwise_set : (e : Extent) (x y : List ℕ) (i v w : ℕ) → length x ≡ length y → MatchBool (white e i) (v ≤ w) (w ≤ v) → Turned e x y → Turned e (slice_set x i v) (slice_set y i w)
 checkerwise_set e x y i v w long here below =
     ⊎_elim
     (λ (within : i < length x) (j : ℕ).

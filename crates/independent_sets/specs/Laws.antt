@@ -12,10 +12,10 @@ use Rattle.lattice.specs.Words.{level, site}
 use Rattle.lattice.proofs.Cells.{all_upto, append_upto, begins_same, filled_up, replicate_upto, set_upto, take_upto, upto_all}
 use Rattle.lattice.proofs.Halves.{Undo, exchanges}
 use Rattle.lattice.proofs.Listed.{kept_holds, kept_once, kept_parts, listed, listed_once, listed_parts}
-use Rattle.independent_sets.specs.Independent.{checkerboard, checkerwise, clear, fill, free, independent, independent_sets, may_follow, threshold, white}
+use Rattle.independent_sets.specs.Independent.{checkerboard, clear, fill, free, independent, independent_sets, may_follow, threshold, white}
 use Rattle.independent_sets.specs.Apart.{Apart, apart_from, follow_apart, follow_upto, free_at, free_from, from_apart, occupied_within, set_apart, stops_parts}
 use Rattle.independent_sets.specs.Beside.{neighbour_apart, neighbour_other}
-use Rattle.independent_sets.specs.Checkerboards.{checkerboard_apart, checkerboard_bits, checkerboard_upto, checkerwise_set, length_checkerboard, turned_along, turned_same, upto_checkerboard, when_from}
+use Rattle.independent_sets.specs.Checkerboards.{Turned, checkerboard_apart, checkerboard_bits, checkerboard_upto, checkerwise_set, length_checkerboard, turned_along, turned_same, turned_sets, upto_checkerboard, when_from}
 
 bit_upto : (t : Bool) → cond t 1 0 ≤ 1
 bit_upto true = omega arith
@@ -30,7 +30,7 @@ bit_set true h = refl
 bit_set false h = absurd (omega arith)
 
 -- a higher state leaves the white cells freer and the black ones less free
-module _ (e : Extent) (x y : List ℕ) (below : checkerwise e x y) (i : ℕ) where
+module _ (e : Extent) (x y : List ℕ) (below : Turned e x y) (i : ℕ) where
   freer : white e i ≡ true → free e x i ≡ true → free e y i ≡ true
   freer light f =
       free_from e y i
@@ -57,7 +57,7 @@ module _ (e : Extent) where
   pub lawful_from : (x : List ℕ) → length x ≡ cell_count e → ((k : ℕ) → slice_index x k ≤ 1) → independent e x ≡ true → Lawful (independent_sets e) x
   lawful_from x long each t = kept_holds (independent e) (value_lists 1 (cell_count e)) x (rw (sym long) (listed 1 x (all_upto x 1 each))) t
 
-  pub ordered : Ordered (independent_sets e)
+  pub ordered : Ordered (turned_sets e)
   ordered = record {
     reflexive = λ x h i. when_from (white e i) _ _ (λ t. le_refl _) (λ t. le_refl _);
     antisymmetric = λ x y h k low high. ext_get_or 0 x y ((lawful_parts x h).0 ∙ sym (lawful_parts y k).0) (λ i l. turned_same (white e i) _ _ (low i) (high i));
@@ -68,7 +68,7 @@ module _ (e : Extent) where
   checkerboard_lawful on-white on-black h k alone =
       lawful_from (checkerboard e on-white on-black) (length_checkerboard e on-white on-black) (checkerboard_bits e on-white on-black h k) (from_apart e _ (checkerboard_apart e on-white on-black alone))
 
-  pub bounded : Bounded (independent_sets e)
+  pub bounded : Bounded (turned_sets e)
   bounded = record {
     bottom_lawful = checkerboard_lawful 0 1 (omega arith) (omega arith) (λ h. absurd (omega arith));
     top_lawful = checkerboard_lawful 1 0 (omega arith) (omega arith) (λ h. refl);
@@ -98,7 +98,7 @@ module _ (e : Extent) where
       (λ t. set_lawful x i _ h (bit_upto (free e x i)) (bit_set (free e x i)))
       (λ t. set_lawful x i 0 h (omega arith) (λ some. absurd (omega arith)))
 
-  pub monotone : Monotone (independent_sets e)
+  pub monotone : Monotone (turned_sets e)
   monotone w hw x y h k below =
       let i = site (cell_count e) w in
       let long = (lawful_parts x h).0 ∙ sym (lawful_parts y k).0 in

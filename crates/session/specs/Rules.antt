@@ -11,7 +11,6 @@ use Rattle.sources.specs.Sources.{Reading}
 use Rattle.sources.specs.SplitMix.{counter_reading}
 use Rattle.spins.specs.Faults.{RuleAnswers, spins_refusal}
 use Rattle.spins.specs.Spins.{rule_parts}
-use Rattle.std.specs.Option.{option_map}
 use Rattle.task.specs.Lines.{Request, close, draws, give_up, «open», partitions, recording, recording_file, run, seed, sets, spins, states, stretch, tally, trace, try}
 use Rattle.session.specs.declared.rules.AnyRule.{AnyRule}
 use Rattle.session.specs.declared.rules.AnyRule.TheVariants as rule

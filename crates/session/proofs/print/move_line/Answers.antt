@@ -1,5 +1,5 @@
-use Rattle.std.proofs.Common.{◌≡◌, ℕ, List, ◌++◌, IfOk, Ok, Err, string_bytes, codes, decimal, Result, sym, ap, ◌∙◌, append_assoc}
-use Rattle.session.specs.Printed.{hex_digits, newline}
+use Rattle.std.proofs.Common.{◌≡◌, ℕ, List, ◌++◌, IfOk, Ok, Err, string_bytes, codes, decimal, Result, ap, ◌∙◌, append_assoc}
+use Rattle.session.specs.Printed.{newline}
 use Rattle.session.proofs.print.move_line.Goals as goal
 
 -- what is made is so in another way too
