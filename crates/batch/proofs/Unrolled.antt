@@ -214,8 +214,8 @@ module _ (s : Setting) (m : Machine) (st : DrawAndStates) (gs : List Event) wher
   pub run_as_tries : m.out ≡ open_draw st.draw → History s gs m → Tallies gs m → 1 ≤ m.stretch → m.stretch ≤ 2 ^ 20 → (report : Report) → RunReports s m st report → AsTries report
   run_as_tries is_open history tallies some fits report run =
       let same = same_out m (open_draw st.draw) is_open in
-      let history-here = subst (History s gs) same history in
-      let tallies-here = subst (Tallies gs) same tallies in
+      let history_here = subst (History s gs) same history in
+      let tallies_here = subst (Tallies gs) same tallies in
       ⊎_elim
       (λ (own : owned s st ≡ true).
       ⊎_elim
@@ -226,13 +226,13 @@ module _ (s : Setting) (m : Machine) (st : DrawAndStates) (gs : List Event) wher
       let refusal : report ≡ refused_report m st tried_refusal = rw done at (rw own at run) in
       let range = and_from _ _ (le-leb 1 m.stretch some) (le-leb m.stretch m.stretch (omega arith)) in
       let tried : try_report s m st m.stretch ≡ refused_report m st tried_refusal = rw own rw range rw done refl in
-      last_try m.stretch st report [] (inl refl) (untried m.stretch (λ U doubled under. both_ways _ done (lt-ltb _ _ (omega (arith, doubled.larger, doubled.below))))) history-here tallies-here (refusal ∙ sym tried))
+      last_try m.stretch st report [] (inl refl) (untried m.stretch (λ U doubled under. both_ways _ done (lt-ltb _ _ (omega (arith, doubled.larger, doubled.below))))) history_here tallies_here (refusal ∙ sym tried))
       (cases_Bool (ltb st.draw.tried m.stretch)))
       (λ (foreign : owned s st ≡ false).
       let refusal : report ≡ refused_report m st (state_refusal Foreign) = rw foreign at run in
       let tried : (T : ℕ) → try_report s m st T ≡ refused_report m st (state_refusal Foreign) = λ T. rw foreign refl in
       ⊎_elim
-      (λ (none : NoDoubledBelow (2 ^ 20)). last_try m.stretch st report [] (inl refl) (untried m.stretch (λ U doubled under. none U doubled (omega (arith, under, fits)))) history-here tallies-here (refusal ∙ sym (tried m.stretch)))
-      (λ (first : (U : ℕ) × Doubled m.stretch st.draw.tried U × NoDoubledBelow U). last_try first.0 st report [] (inr first.1) (untried first.0 first.2) history-here tallies-here (refusal ∙ sym (tried first.0)))
+      (λ (none : NoDoubledBelow (2 ^ 20)). last_try m.stretch st report [] (inl refl) (untried m.stretch (λ U doubled under. none U doubled (omega (arith, under, fits)))) history_here tallies_here (refusal ∙ sym (tried m.stretch)))
+      (λ (first : (U : ℕ) × Doubled m.stretch st.draw.tried U × NoDoubledBelow U). last_try first.0 st report [] (inr first.1) (untried first.0 first.2) history_here tallies_here (refusal ∙ sym (tried first.0)))
       (least 20))
       (cases_Bool (owned s st))

@@ -113,7 +113,7 @@ stops_parts e x i long f =
     let p = or_parts (v == 0) (v == 1 && free e (take i x) (length (take i x))) f in
     let some = eqb-false v 0 p.0 in
     ⊎_elim
-    (λ (many : nat_eq v 1 ≡ false). let not-one = eqb-false v 1 many in inl (omega (arith, some, not-one)))
+    (λ (many : nat_eq v 1 ≡ false). let not_one = eqb-false v 1 many in inl (omega (arith, some, not_one)))
     (λ (taken : free e (take i x) (length (take i x)) ≡ false).
     let q = not_free e (take i x) i (rw size at taken) in
     let before : q.0 < i = omega (arith, occupied_within (take i x) q.0 q.2) in

@@ -42,44 +42,44 @@ checkerwise_set e x y i v w long here below =
     (λ (past : length x ≤ i). let also : length y ≤ i = omega arith in rw (set_past x i v past, set_past y i w also) below)
     (cases_lt i (length x))
 
-module _ (e : Extent) (on-white on-black : ℕ) where
-  pub length_checkerboard : length (checkerboard e on-white on-black) ≡ cell_count e
-  length_checkerboard = length-map-range_with_len (λ i. cond (white e i) on-white on-black) 0 (cell_count e)
+module _ (e : Extent) (on_white on_black : ℕ) where
+  pub length_checkerboard : length (checkerboard e on_white on_black) ≡ cell_count e
+  length_checkerboard = length-map-range_with_len (λ i. cond (white e i) on_white on_black) 0 (cell_count e)
 
-  pub getD_checkerboard : (i : ℕ) → i < cell_count e → slice_index (checkerboard e on-white on-black) i ≡ cond (white e i) on-white on-black
-  getD_checkerboard i h = get_or-map-range_with_len (λ k. cond (white e k) on-white on-black) 0 (cell_count e) i i 0 h (omega arith)
+  pub slice_index_checkerboard : (i : ℕ) → i < cell_count e → slice_index (checkerboard e on_white on_black) i ≡ cond (white e i) on_white on_black
+  slice_index_checkerboard i h = get_or-map-range_with_len (λ k. cond (white e k) on_white on_black) 0 (cell_count e) i i 0 h (omega arith)
 
-  pub checkerboard_upto : (i : ℕ) → slice_index (checkerboard e on-white on-black) i ≤ cond (white e i) on-white on-black
+  pub checkerboard_upto : (i : ℕ) → slice_index (checkerboard e on_white on_black) i ≤ cond (white e i) on_white on_black
   checkerboard_upto i =
       ⊎_elim
-      (λ (within : i < cell_count e). omega (arith, getD_checkerboard i within))
-      (λ (past : cell_count e ≤ i). omega (arith, get_or_past (checkerboard e on-white on-black) i 0 (omega (arith, length_checkerboard))))
+      (λ (within : i < cell_count e). omega (arith, slice_index_checkerboard i within))
+      (λ (past : cell_count e ≤ i). omega (arith, get_or_past (checkerboard e on_white on_black) i 0 (omega (arith, length_checkerboard))))
       (cases_lt i (cell_count e))
 
-  pub checkerboard_bits : on-white ≤ 1 → on-black ≤ 1 → (i : ℕ) → slice_index (checkerboard e on-white on-black) i ≤ 1
-  checkerboard_bits h k i = le_trans (checkerboard_upto i) (cond_both (white e i) on-white on-black (λ v. v ≤ 1) (λ t. h) (λ t. k))
+  pub checkerboard_bits : on_white ≤ 1 → on_black ≤ 1 → (i : ℕ) → slice_index (checkerboard e on_white on_black) i ≤ 1
+  checkerboard_bits h k i = le_trans (checkerboard_upto i) (cond_both (white e i) on_white on_black (λ v. v ≤ 1) (λ t. h) (λ t. k))
 
-  pub upto_checkerboard : (x : List ℕ) (i : ℕ) → length x ≡ cell_count e → slice_index x i ≤ cond (white e i) on-white on-black → slice_index x i ≤ slice_index (checkerboard e on-white on-black) i
+  pub upto_checkerboard : (x : List ℕ) (i : ℕ) → length x ≡ cell_count e → slice_index x i ≤ cond (white e i) on_white on_black → slice_index x i ≤ slice_index (checkerboard e on_white on_black) i
   upto_checkerboard x i long h =
       ⊎_elim
-      (λ (within : i < cell_count e). omega (arith, getD_checkerboard i within))
+      (λ (within : i < cell_count e). omega (arith, slice_index_checkerboard i within))
       (λ (past : cell_count e ≤ i). omega (arith, get_or_past x i 0 (omega arith)))
       (cases_lt i (cell_count e))
 
   -- no white cell is occupied beside a black one
-  pub checkerboard_apart : (0 < on-white → on-black ≡ 0) → Apart e (checkerboard e on-white on-black)
+  pub checkerboard_apart : (0 < on_white → on_black ≡ 0) → Apart e (checkerboard e on_white on_black)
   checkerboard_apart alone i j h occupied =
-      let within : i < cell_count e = omega (arith, occupied_within (checkerboard e on-white on-black) i occupied, length_checkerboard) in
+      let within : i < cell_count e = omega (arith, occupied_within (checkerboard e on_white on_black) i occupied, length_checkerboard) in
       let other = neighbour_other e i j h in
-      let here : 0 < cond (white e i) on-white on-black = rw (getD_checkerboard i within) at occupied in
-      let there = getD_checkerboard j (neighbour_within e i j h) in
+      let here : 0 < cond (white e i) on_white on_black = rw (slice_index_checkerboard i within) at occupied in
+      let there = slice_index_checkerboard j (neighbour_within e i j h) in
       ⊎_elim
       (λ (t : white e i ≡ true).
-      let some : 0 < on-white = rw t at here in
+      let some : 0 < on_white = rw t at here in
       let black : white e j ≡ false = other ∙ ap not t in
       there ∙ rw black (alone some))
       (λ (f : white e i ≡ false).
-      let some : 0 < on-black = rw f at here in
+      let some : 0 < on_black = rw f at here in
       let light : white e j ≡ true = other ∙ ap not f in
-      there ∙ rw light (⊎_elim (λ (z : on-white < 1). omega arith) (λ (n : 1 ≤ on-white). absurd (omega (arith, alone (omega arith)))) (cases_lt on-white 1)))
+      there ∙ rw light (⊎_elim (λ (z : on_white < 1). omega arith) (λ (n : 1 ≤ on_white). absurd (omega (arith, alone (omega arith)))) (cases_lt on_white 1)))
       (cases_Bool (white e i))

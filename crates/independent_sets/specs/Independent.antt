@@ -23,8 +23,8 @@ abbrev pub checkerwise : Extent → List ℕ → List ℕ → Type 0
 checkerwise e x y = (i : ℕ) → MatchBool (white e i) (slice_index x i ≤ slice_index y i) (slice_index y i ≤ slice_index x i)
 
 -- One value on the white cells, another on the black ones.
-abbrev pub checkerboard : Extent → (on-white on-black : ℕ) → List ℕ
-checkerboard e on-white on-black = map (λ i. cond (white e i) on-white on-black) (range_with_len 0 (cell_count e))
+abbrev pub checkerboard : Extent → (on_white on_black : ℕ) → List ℕ
+checkerboard e on_white on_black = map (λ i. cond (white e i) on_white on_black) (range_with_len 0 (cell_count e))
 
 -- The site is occupied if all its neighbours are empty, else emptied.
 abbrev pub fill : Extent → ℕ → List ℕ → List ℕ

@@ -64,9 +64,9 @@ module _ (e : Extent) where
     transitive = λ x y z h k l low high i. turned_along (white e i) _ _ _ (low i) (high i);
   }
 
-  checkerboard_lawful : (on-white on-black : ℕ) → on-white ≤ 1 → on-black ≤ 1 → (0 < on-white → on-black ≡ 0) → Lawful (independent_sets e) (checkerboard e on-white on-black)
-  checkerboard_lawful on-white on-black h k alone =
-      lawful_from (checkerboard e on-white on-black) (length_checkerboard e on-white on-black) (checkerboard_bits e on-white on-black h k) (from_apart e _ (checkerboard_apart e on-white on-black alone))
+  checkerboard_lawful : (on_white on_black : ℕ) → on_white ≤ 1 → on_black ≤ 1 → (0 < on_white → on_black ≡ 0) → Lawful (independent_sets e) (checkerboard e on_white on_black)
+  checkerboard_lawful on_white on_black h k alone =
+      lawful_from (checkerboard e on_white on_black) (length_checkerboard e on_white on_black) (checkerboard_bits e on_white on_black h k) (from_apart e _ (checkerboard_apart e on_white on_black alone))
 
   pub bounded : Bounded (turned_sets e)
   bounded = record {

@@ -1,4 +1,4 @@
--- `value-lists` names each list of its length and values, and each once; a test keeps that.
+-- `value_lists` names each list of its length and values, and each once; a test keeps that.
 use Rattle.std.proofs.Common.{◌≡◌, ℕ, zero, suc, ◌+◌, ◌<◌, ◌≤◌, Bool, true, false, ◌⊎◌, List, [], ◌∷◌, ◌++◌, map, length, filter, sym, refl, ap, ◌∙◌, subst, inl, inr, ⊎_elim, arith}
 use Rattle.std.proofs.lemmas.Bool.{cases_eq, cases_Bool}
 use Rattle.std.specs.List.{range_with_len, flat_map, AllByRecursion}

@@ -45,8 +45,8 @@ module _ (e : Extent) where
 
   pub lawful_from : (x : List ℕ) → length x ≡ cell_count e → Falling e x → Lawful (partitions_meaning e) x
   lawful_from x long falling =
-      let listed-there = listed e.largest x (all_upto x e.largest (λ k. omega (arith, falling k))) in
-      kept_holds (falls e) (value_lists e.largest (cell_count e)) x (rw (sym long) listed-there) ((test_decides x).1 (All-from_get_or (Fits x) (range_with_len 0 (cell_count e)) 0 (λ k h. falling _)))
+      let listed_there = listed e.largest x (all_upto x e.largest (λ k. omega (arith, falling k))) in
+      kept_holds (falls e) (value_lists e.largest (cell_count e)) x (rw (sym long) listed_there) ((test_decides x).1 (All-from_get_or (Fits x) (range_with_len 0 (cell_count e)) 0 (λ k h. falling _)))
 
   pub ordered : Ordered (partitions_meaning e)
   ordered = record {

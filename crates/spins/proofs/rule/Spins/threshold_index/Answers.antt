@@ -24,9 +24,9 @@ loop-shift-preserved c =
           (let j = w.in-Some.neighbour in
           let at = w.in-Some.ensures in
           let spin : get_or x j 0 ≤ 1 = c.args.state.now.spins j in
-          let not-up = eqb-false (get_or x j 0) 1 (sym w.is_up.ensures ∙ w.if-is_up.false) in
-          let down : get_or x j 0 ≡ 0 = omega (arith, not-up) in
-          let ups = holding_no e x 1 i n j few at not-up in
+          let not_up = eqb-false (get_or x j 0) 1 (sym w.is_up.ensures ∙ w.if-is_up.false) in
+          let down : get_or x j 0 ≡ 0 = omega (arith, not_up) in
+          let ups = holding_no e x 1 i n j few at not_up in
           let downs = holding_yes e x 0 i n j few at down in
           omega (arith, w.index-is))
       | in_default w ↦
