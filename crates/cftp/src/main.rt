@@ -6,6 +6,7 @@ use session::progress::Progress;
 use session::stages::carry_out_showing;
 use session::trouble::Stopped;
 use std::io::{BufReader, Read};
+use std::process::ExitCode;
 use std::{env, fs, io};
 
 const HELP: &str = "cftp: exact random states of lattice models
@@ -36,17 +37,11 @@ A task has one directive a line:
   tally                 print how many draws were opened, met and given up
 Empty lines and lines that begin with # are skipped. docs/TASKS.md has the whole of it.";
 
-// The program ends with status 1. What went wrong has been printed, unless printing failed.
-#[derive(Debug, Drop)]
-enum Ended {
-    Failed,
-}
-
-fn main(rt: HostRuntime) -> Result<(), Ended> {
+// The program ends with status 1 where not all went well. What went wrong has been printed, unless printing failed.
+fn main(rt: HostRuntime) -> ExitCode {
     match begin(&rt) {
-        Ok(true) => Ok(()),
-        Ok(false) => Err(Ended::Failed),
-        Err(_) => Err(Ended::Failed),
+        Ok(true) => ExitCode::SUCCESS,
+        Ok(false) | Err(_) => ExitCode::FAILURE,
     }
 }
 
