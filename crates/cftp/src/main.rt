@@ -37,7 +37,8 @@ A task has one directive a line:
   tally                 print how many draws were opened, met and given up
 Empty lines and lines that begin with # are skipped. docs/TASKS.md has the whole of it.";
 
-// The program ends with status 1 where not all went well. What went wrong has been printed, unless printing failed.
+// The program ends with status 1 where not all went well. What went wrong has been printed, unless printing failed or
+// there was no memory.
 fn main(rt: HostRuntime) -> ExitCode {
     match begin(&rt) {
         Ok(true) => ExitCode::SUCCESS,

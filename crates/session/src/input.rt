@@ -1,6 +1,6 @@
 // The directives of a task, one after another, with the number of the line that is being read.
 ghost use Rattle.std.specs.Prelude.{◌≡◌, true, ◌⊎◌, IfSome, IfOk, Err, vec_items};
-ghost use Rattle.session.specs.Stages.{allowed, counted, line_answer, line_read, without_newline};
+ghost use Rattle.session.specs.Stages.{allowed, counted, line_answer, line_read};
 ghost use Rattle.std.specs.Option as Options;
 ghost use Rattle.std.specs.Result as Results;
 ghost use Rattle.task.specs.Lines.{line_meaning, request_of};

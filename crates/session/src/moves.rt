@@ -1,7 +1,6 @@
 // One move of a state by a word, with what the word chose.
 ghost use Rattle.std.specs.Prelude.{◌≡◌};
 ghost use Rattle.lattice.specs.Faults.{state_refusal};
-ghost use Rattle.lattice.specs.Words.{level, site};
 ghost use Rattle.refusal.specs.Refusals.{answer, left_by};
 ghost use Rattle.session.specs.Moves.{move_answer, chosen};
 

@@ -1,6 +1,6 @@
 // Independent sets as a kind: code 3, one bit a cell. First what changes a set, each keeping neighbours from both being
 // occupied, and the tests of a cell by its neighbours.
-ghost use Rattle.std.specs.Prelude.{◌≡◌, ℕ, ◌≤◌, true, ◌&&◌, length, take, set, IfOk, if◌then◌else◌, nat_lt, slice_index, slice_set};
+ghost use Rattle.std.specs.Prelude.{◌≡◌, ℕ, ◌≤◌, true, ◌&&◌, length, take, IfOk, if◌then◌else◌, nat_lt, slice_index, slice_set};
 ghost use Rattle.std.proofs.Common.{subst, ap, sym, ◌∙◌, rules};
 ghost use Rattle.independent_sets.specs.Independent.{checkerboard, free, independent, independent_sets, may_follow, threshold, white};
 ghost use Rattle.independent_sets.specs.Sets.{rule_extent, state_cells, state_extent};
