@@ -1,5 +1,5 @@
 // Making, reading and changing the cells of a grid; the answers that every kind on a grid gives alike.
-ghost use Rattle.std.specs.Prelude.{◌≡◌, length, take, replicate, IfOk, if◌then◌else◌, vec_len, Decides, nat_le, slice_index, slice_set};
+ghost use Rattle.std.specs.Prelude.{◌≡◌, ℕ, ◌<◌, length, take, replicate, IfOk, if◌then◌else◌, vec_len, Decides, nat_le, slice_index, slice_set};
 ghost use Rattle.lattice.specs.Calls.{cell_answer, EqualAnswers};
 ghost use Rattle.lattice.specs.Faults.{state_refusal};
 ghost use Rattle.lattice.specs.Grid.{agree, cell_count};
@@ -25,6 +25,16 @@ fn fill_cells(cells: &mut Vec<u8>, value: u8)
     cells.as_mut_slice().fill(value);
 }
 
+// Writes at each index the value that `value_of` gives for it.
+fn write_each<F: Fn(usize) -> u8>(cells: &mut [u8], value_of: F)
+    requires { F.IsAlwaysCallable value_of }
+    ensures { (i : ℕ) → i < length cells.old → F.post value_of i (slice_index cells.new i) }
+{
+    for (i, cell) in cells.iter_mut().enumerate() {
+        *cell = value_of(i);
+    }
+}
+
 impl Grid {
     // A grid of this shape with 0 in every cell.
     pub fn new(heap: Global, shape: Shape) -> Result<Grid, AllocError>
@@ -34,15 +44,18 @@ impl Grid {
         Ok(Grid { shape, cells })
     }
 
+    // The values of all cells.
+    pub fn as_slice(&self) -> &[u8]
+        ensures { result.now ≡ grid_cells self.now }
+    {
+        self.cells.as_slice()
+    }
+
     // The value of a cell, 0 past the last one.
     pub fn get(&self, cell: usize) -> u8
         ensures { result ≡ slice_index (grid_cells self.now) cell }
     {
-        if cell < self.cells.len() {
-            self.cells[cell]
-        } else {
-            0
-        }
+        self.cells.get(cell).copied().unwrap_or(0)
     }
 
     // Whether the grid has this shape.
@@ -68,6 +81,15 @@ impl Grid {
         ensures keeps { grid_extent self.new ≡ grid_extent self.old }
     {
         fill_cells(&mut self.cells, value);
+    }
+
+    // Writes into each cell the value that `value_of` gives for it.
+    pub fn fill_with<F: Fn(usize) -> u8>(&mut self, value_of: F)
+        requires { F.IsAlwaysCallable value_of }
+        ensures writes { (i : ℕ) → i < cell_count (grid_extent self.old) → F.post value_of i (slice_index (grid_cells self.new) i) }
+        ensures keeps { grid_extent self.new ≡ grid_extent self.old }
+    {
+        write_each(self.cells.as_mut_slice(), value_of);
     }
 
     // Writes a byte for each cell, from the first on; nothing changes where there are too few.
