@@ -1,6 +1,6 @@
 // The interface of a kind: a rule, the states that it moves, what they mean, and the laws that make sampling exact.
 ghost use Rattle.std.specs.Prelude.{◌≡◌, ℕ, List, take, MatchResult};
-ghost use Rattle.lattice.specs.Calls.{EqualAnswers, LoadAnswers, cell_answer, owner_answer, read_answer};
+ghost use Rattle.lattice.specs.Calls.{EqualAnswers, LoadAnswers, cell_answer, owner_answer};
 ghost use Rattle.lattice.specs.Faults.{state_refusal};
 ghost use Rattle.lattice.specs.Grid.{Extent, InRange, agree, cell_count};
 ghost use Rattle.lattice.specs.Kind.{Bounded, Closed, Coded, Distinct, Lawful, Meaning, Monotone, Ordered, Sized};
@@ -79,33 +79,6 @@ pub trait Kind {
         ensures { result ≡ agree (extent self.now) (carried state.now) }
     {
         self.shape().agrees(&Self::shape_of(state))
-    }
-
-    // Refuses a state that is not the rule's.
-    final fn own(&self, state: &Self::State) -> Result<(), StateFault>
-        ensures { answer (λ u. u) state_refusal result ≡ owner_answer (extent self.now) (carried state.now) }
-    {
-        if self.owns(state) {
-            Ok(())
-        } else {
-            Err(StateFault::Foreign)
-        }
-    }
-
-    // The bytes that loading into a state reads: one for each cell, from the first on.
-    final fn bytes_to_load<'a>(
-        &self,
-        state: &Self::State,
-        bytes: &'a [u8],
-    ) -> Result<&'a [u8], StateFault>
-        ensures { answer (λ r. r.now) state_refusal result ≡ read_answer (extent self.now) (carried state.now) bytes.now }
-    {
-        self.own(state)?;
-        let count = self.cell_count() as usize;
-        if bytes.len() < count {
-            return Err(StateFault::FewCells);
-        }
-        Ok(&bytes[0..count])
     }
 
     // A state of this rule, as the bottom.
