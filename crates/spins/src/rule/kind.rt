@@ -1,5 +1,6 @@
 // Spin grids as a kind: code 1, one bit a cell. First what changes spins, each keeping every cell 0 or 1.
-ghost use Rattle.std.specs.Prelude.{◌≡◌, ℕ, ◌≤◌, length, take, replicate, IfOk, if◌then◌else◌, ◌==◌, slice_index, slice_set};
+ghost use Rattle.std.specs.Prelude.{◌≡◌, ℕ, ◌≤◌, length, take, replicate, IfOk, if◌then◌else◌, ◌==◌, nat_lt, slice_index, slice_set};
+ghost use Rattle.std.specs.List.{position};
 ghost use Rattle.std.proofs.Common.{subst, ap, sym, ◌∙◌, rules};
 ghost use Rattle.lattice.specs.Grid.{cell_count, Extent};
 ghost use Rattle.lattice.specs.Shapes.{extent_of};
@@ -60,6 +61,13 @@ impl SpinGrid {
     }
 }
 
+// The first of these values that is no spin.
+fn first_no_spin(values: &[u8]) -> Option<usize>
+    ensures { result ≡ position (nat_lt 1) values.now }
+{
+    values.iter().position(|value| *value > 1)
+}
+
 impl Spins {
     // The index of the threshold that decides the site: 4, and one more for each neighbour that is up, one less for each
     // that is down.
@@ -67,11 +75,11 @@ impl Spins {
         ensures { result ≡ threshold_index (spins_extent self.now) (spin_cells state.now) site }
     {
         let mut index = 4;
-        for neighbour in self.shape.neighbours(site).into_iter().flatten() {
-            if state.is_up(neighbour) {
-                index += 1;
-            } else {
-                index -= 1;
+        for neighbour in self.shape.neighbours(site) {
+            match neighbour {
+                Some(cell) if state.is_up(cell) => index += 1,
+                Some(_) => index -= 1,
+                None => {}
             }
         }
         index
@@ -161,7 +169,7 @@ impl Kind for Spins {
 
     fn load(&self, state: &mut SpinGrid, bytes: &[u8]) -> Result<(), StateFault> {
         let spins = state.grid.bytes_to_load(&self.shape, bytes)?;
-        if let Some(cell) = spins.iter().position(|spin| *spin > 1) {
+        if let Some(cell) = first_no_spin(spins) {
             return Err(StateFault::Unlawful { cell });
         }
         state.take_spins(spins);
