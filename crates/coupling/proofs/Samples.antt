@@ -17,9 +17,6 @@ words_back : (older newer : List ℕ) → Words (older ++ newer) → Words newer
 words_back [] newer all = all
 words_back (w ∷ ws) newer all = words_back ws newer all.1
 
-same_state : (x y : List ℕ) → met_in x ≡ met_in y → x ≡ y
-same_state x y e = cc
-
 module _ (m : Meaning) (ordered : Ordered m) (bounded : Bounded m) (closed : Closed m) (monotone : Monotone m) where
   -- words in front of some that meet change nothing
   pub older_change_nothing : OlderWordsChangeNothing m
@@ -42,7 +39,7 @@ module _ (m : Meaning) (ordered : Ordered m) (bounded : Bounded m) (closed : Clo
       let small = fills_smaller q stretch d T U fill.some upto too in
       let words = same_window r q agree stretch d T fill small in
       let kept = larger_windows q sound stretch d T U too upto x (subst (λ (ws : List ℕ). outcome m ws ≡ met_in x) words first) in
-      same_state x y (sym kept ∙ second)
+      cc
 
   pub agreeing_sources : (r q : Reading) → Sound r → Sound q → AgreeingSourcesMeetAlike m r q
   agreeing_sources r q sound also agree stretch d T U fill too x y first second =
