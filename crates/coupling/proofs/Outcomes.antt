@@ -1,5 +1,5 @@
 -- What the ends of two runs say, and the other way round.
-use Rattle.std.proofs.Common.{◌≡◌, true, false, List, ℕ, sym, refl, ◌∙◌, ⊎_elim}
+use Rattle.std.proofs.Common.{◌≡◌, true, false, List, ℕ, refl, ⊎_elim}
 use Rattle.std.proofs.lemmas.Slice.Eq.{bytes_eq-Decides}
 use Rattle.std.proofs.lemmas.Bool.{both_ways, cases_Bool, not-true}
 use Rattle.std.proofs.lemmas.Bool.Decides.{Decides-not}
