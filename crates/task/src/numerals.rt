@@ -13,11 +13,8 @@ pub fn number(word: &[u8]) -> Option<u64>
     if word.is_empty() {
         return None;
     }
-    let mut value = 0;
-    for byte in word {
-        value = longer(value, *byte)?;
-    }
-    Some(value)
+    word.iter()
+        .try_fold(0, |value, byte| longer(value, *byte))
 }
 
 // `value` with one more digit behind it.
