@@ -1,8 +1,7 @@
 -- Fields read one after another.
-use Rattle.std.proofs.Common.{◌≡◌, ℕ, suc, ◌+◌, ◌-◌, ◌<◌, ◌≤◌, List, [], ◌∷◌, ◌++◌, drop, Some, Ok, Err, Option, Result, refl, ap, arith}
+use Rattle.std.proofs.Common.{◌≡◌, ℕ, suc, ◌+◌, ◌-◌, ◌<◌, ◌≤◌, List, [], ◌∷◌, ◌++◌, drop, Ok, Err, Result, refl, ap, arith}
 use Rattle.std.proofs.lemmas.List.{append_assoc, append-nil}
-use Rattle.task.specs.Fields.{at_end, bytes_due, number_due, numbers_due, with_it}
-use Rattle.task.specs.Text.{first, hex_bytes}
+use Rattle.task.specs.Fields.{at_end, number_due, numbers_due, with_it}
 use Rattle.task.specs.declared.line.Expected.{Expected}
 
 -- The numbers xs, and n more in these words.

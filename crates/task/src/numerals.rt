@@ -13,18 +13,15 @@ pub fn number(word: &[u8]) -> Option<u64>
     if word.is_empty() {
         return None;
     }
-    word.iter()
-        .try_fold(0, |value, byte| longer(value, *byte))
+    word.iter().try_fold(0, |value, byte| longer(value, *byte))
 }
 
 // `value` with one more digit behind it.
 fn longer(value: u64, byte: u8) -> Option<u64>
     ensures { result ≡ longer value byte }
 {
-    match byte {
-        b'0'..=b'9' => value.checked_mul(10)?.checked_add(u64::from(byte - b'0')),
-        _ => None,
-    }
+    let digit = char::from(byte).to_digit(10)?;
+    value.checked_mul(10)?.checked_add(u64::from(digit))
 }
 
 // The bytes that a word writes in hex, two digits for each; `-` writes none.

@@ -1,7 +1,6 @@
-use Rattle.std.proofs.Common.{rules, ◌≡◌, false, List, ℕ, length, take, drop, ◌++◌, Some, codes, sym, ap, ◌∙◌, arith}
+use Rattle.std.proofs.Common.{rules, ◌≡◌, false, length, take, drop, ◌++◌, Some, codes, ap, ◌∙◌, arith}
 use Rattle.std.proofs.Math.Seq.{take-append_seam}
 use Rattle.std.specs.Str.{bytes_eq}
-use Rattle.task.specs.Text.{hex_bytes}
 use Rattle.task.proofs.Hex.{bytes_read}
 use Rattle.task.proofs.numerals.hex_bytes.Goals as goal
 
