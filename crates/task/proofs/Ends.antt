@@ -51,7 +51,7 @@ past_begins (x ∷ bs) b us e =
       | inr no' ↦ let h : x ∷ bs ≡ b ∷ us = simp no' at e in let same : x ≡ b = cc in rw same at no'
     ]
 
-pub trims : (bs : List ℕ) → Trims bs (trimmed bs)
+trims : (bs : List ℕ) → Trims bs (trimmed bs)
 trims bs =
     let s = past blank bs in
     let back = lead_past (reverse s) in
@@ -65,3 +65,6 @@ trims bs =
       begins = λ b us e. past_begins bs b (us ++ reverse (lead blank (reverse s))) (whole ∙ ap (λ t. t ++ reverse (lead blank (reverse s))) e);
       ends = λ us b e. past_begins (reverse s) b (reverse us) (sym (reverse-reverse (past blank (reverse s))) ∙ ap reverse e ∙ reverse-append us (b ∷ []));
     }
+
+pub trimmed_text : (bs t : List ℕ) → t ≡ trimmed bs → Trims bs t
+trimmed_text bs t e = rw e (trims bs)

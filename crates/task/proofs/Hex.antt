@@ -1,5 +1,5 @@
 -- Bytes read from hex, one after another.
-use Rattle.std.proofs.Common.{◌≡◌, ℕ, ◌+◌, ◌*◌, ◌/◌, ◌%◌, ◌<◌, false, List, [], ◌∷◌, map, length, Some, None, Ok, Err, codes, Option, Result, refl, sym, ap, ◌∙◌, inl, inr, arith}
+use Rattle.std.proofs.Common.{◌≡◌, ℕ, ◌+◌, ◌*◌, ◌/◌, ◌%◌, ◌<◌, Bool, false, List, [], ◌∷◌, map, length, Some, None, Ok, Err, codes, Option, Result, refl, sym, ap, ◌∙◌, inl, inr, arith}
 use Rattle.std.proofs.lemmas.Slice.Eq.{bytes_eq-Decides}
 use Rattle.std.proofs.lemmas.Bool.{cases_Bool, cases_eq}
 use Rattle.std.proofs.lemmas.Bool.Decides.{nat_tests, not_from_Decides}
@@ -7,8 +7,9 @@ use Rattle.std.specs.Str.{bytes_eq}
 use Rattle.std.specs.Char.{digit_char, to_ascii_lowercase}
 use Rattle.std.specs.List.{AllByRecursion}
 use Rattle.task.specs.Laws.{hex_text, ReadsHex}
+use Rattle.std.specs.Bool.{then_some}
 use Rattle.std.specs.Option.{option_map}
-use Rattle.std.specs.Result.{MatchResult, result_ok}
+use Rattle.std.specs.Result.{MatchResult, is_ok, result_ok}
 use Rattle.hex.specs.Hex.{decode_pairs, decode_sized, digit_or_error, hex_digit_value, ◌>>=◌}
 use Rattle.hex.specs.declared.error.FromHexError.{FromHexError}
 use Rattle.hex.proofs.HexLemmas.{decode_of-even, decode_sized-odd, decode_sized-twice}
@@ -103,3 +104,8 @@ hex_law w =
       | inl e ↦ rw e (inr (same.0 e, refl))
       | inr e ↦ rw e (law_from w (hex_pairs w) refl (not_from_Decides _ same e))
     ]
+
+-- The same of what `then_some` makes of the bytes written.
+pub bytes_kept : {V : Type 0} (items : V → List ℕ) (v : V) (o : Option V) (ok : Bool) (w out : List ℕ) (r : Result (Unit {0}) FromHexError) → o ≡ then_some ok v → ok ≡ is_ok r → items v ≡ out → option_map (λ _. out) (result_ok r) ≡ hex_bytes w → option_map items o ≡ hex_bytes w
+bytes_kept items v o ok w out (Ok u) some read same h = rw (some, read, same) h
+bytes_kept items v o ok w out (Err e) some read same h = rw (some, read) h

@@ -34,8 +34,6 @@ pub fn hex_bytes(heap: Global, word: &[u8]) -> Result<Option<Vec<u8>>, AllocErro
         return Ok(Some(Vec::new(heap)));
     }
     let mut bytes = vec![in heap; 0; word.len() / 2]?;
-    match hex::decode_to_slice(word, bytes.as_mut_slice()) {
-        Ok(()) => Ok(Some(bytes)),
-        Err(_) => Ok(None),
-    }
+    let read = hex::decode_to_slice(word, bytes.as_mut_slice());
+    Ok(read.is_ok().then_some(bytes))
 }
