@@ -58,6 +58,7 @@ impl Stage {
         ensures holds { HoldsInEveryHistory (setting_of K.Kind S.Source setting.now) }
         ensures keeps { SameExtents ends.old ends.new }
     {
+        setting.source.sound();
         self.step(request, setting, ends)
     }
 
