@@ -1,5 +1,5 @@
 -- Every history with its runs as tries.
-use Rattle.std.proofs.Common.{◌≡◌, ℕ, ◌+◌, ◌^◌, ◌≤◌, Bool, true, false, cond, List, [], ◌∷◌, ◌++◌, sym, refl, ap, ◌∙◌, subst, inl, inr, arith}
+use Rattle.std.proofs.Common.{◌≡◌, ℕ, ◌+◌, ◌^◌, ◌≤◌, Bool, true, false, cond, List, [], ◌∷◌, ◌++◌, sym, refl, ap, ◌∙◌, subst, inl, inr}
 use Rattle.std.proofs.lemmas.Bool.{and_parts, leb-true}
 use Rattle.refusal.specs.Refusals.{Refusal, given, provided}
 use Rattle.batch.specs.Histories.{Event, Has, History, event}
@@ -16,7 +16,7 @@ use Rattle.batch.proofs.Unrolled.{run_as_tries}
 
 new_range : (stretch : ℕ) (m : Machine) (b : Bool) (c : Refusal) → provided b c (given (new_machine stretch)) ≡ given m → b ≡ true
 new_range stretch m true c e = refl
-new_range stretch m false c e = let z : ◌≡◌ {A = ℕ} 0 1 = cc in absurd (omega arith)
+new_range stretch m false c e = cc
 
 -- the stretch is from 1 to 2^20
 in_range : (s : Setting) (es : List Event) (m : Machine) → History s es m → (1 ≤ m.stretch) × (m.stretch ≤ 2 ^ 20)

@@ -60,16 +60,16 @@ module _ (s : Setting) (ordered : Ordered s.rule) (bounded : Bounded s.rule) (cl
   ends_exact q t m d T (met_in y) window fills e =
       let arrives = arrives_in m.stretch d T y e in (
         λ _. record { draw = tried_to d T; out = refl; window = window; fills = fills; both = refl; by_words = e; arrives = arrives },
-        λ apart. let z : ◌≡◌ {A = ℕ} 0 1 = cc in absurd (omega arith),
+        λ apart. cc,
         λ _ c out.
             let same : tried_to d T ≡ c = cc in
             let all = arrives T (omega arith) fills in
             subst (λ (x : Draw). (said_met ≡ said_apart → SomeEndApart s.rule (words_of s m.stretch x x.tried)) × (SomeEndApart s.rule (words_of s m.stretch x x.tried) → said_met ≡ said_apart)) same
-            (λ apart. let z : ◌≡◌ {A = ℕ} 0 1 = cc in absurd (omega arith), λ apart. absurd (apart.4 (all apart.0 apart.2 ∙ sym (all apart.1 apart.3)))),
+            (λ apart. cc, λ apart. absurd (apart.4 (all apart.0 apart.2 ∙ sym (all apart.1 apart.3)))),
       )
   ends_exact q t m d T (apart_at x y) window fills e =
       let differ = (apart_where_some_differ s.rule ordered bounded closed monotone (words_of s m.stretch d T) (window_is_words s.source sound m.stretch d.number T fills)).0 x y e in (
-        λ met. let z : ◌≡◌ {A = ℕ} 0 1 = cc in absurd (omega arith),
+        λ met. cc,
         λ _. record { draw = tried_to d T; out = refl; window = window; fills = fills; by_words = e },
         λ _ c out.
             let same : tried_to d T ≡ c = cc in
