@@ -87,14 +87,8 @@ impl Stage {
     {
         match (self, request) {
             (Stage::Idle(batch), Request::Open) => match batch.open() {
-                Ok(opened) => {
-                    let (draw, token) = opened;
-                    (Stage::Open(draw, token), Reply::Opened)
-                }
-                Err(full) => {
-                    let Full { batch } = full;
-                    (Stage::Idle(batch), Reply::Refused(Fault::Full))
-                }
+                Ok((draw, token)) => (Stage::Open(draw, token), Reply::Opened),
+                Err(Full { batch }) => (Stage::Idle(batch), Reply::Refused(Fault::Full)),
             },
             (Stage::Open(draw, token), Request::Try(window)) => {
                 settled(draw.try_window(setting, window, ends), token)
