@@ -16,13 +16,8 @@ use Rattle.batch.proofs.Runs.{ends_early, ends_last, goes_on, passes}
 same_draw : (d e : Draw) → open_draw d ≡ open_draw e → d ≡ e
 same_draw d e same = cc
 
-same_draw_and_states : (d d' : Draw) (t t' : Two) → d ≡ d' → t.low_extent ≡ t'.low_extent → t.high_extent ≡ t'.high_extent → t.low ≡ t'.low → t.high ≡ t'.high → with_two d t ≡ with_two d' t'
-same_draw_and_states d d' t t' hd he hf hx hy =
-    ap (λ (v : Draw). with_two v t) hd
-    ∙ ap (λ (v : Extent). with_two d' (two v t.high_extent t.low t.high)) he
-    ∙ ap (λ (v : Extent). with_two d' (two t'.low_extent v t.low t.high)) hf
-    ∙ ap (λ (v : List ℕ). with_two d' (two t'.low_extent t'.high_extent v t.high)) hx
-    ∙ ap (λ (v : List ℕ). with_two d' (two t'.low_extent t'.high_extent t'.low v)) hy
+same_draw_and_states : (d d' : Draw) (e e' f f' : Extent) (x x' y y' : List ℕ) → d ≡ d' → e ≡ e' → f ≡ f' → x ≡ x' → y ≡ y' → with_two d (two e f x y) ≡ with_two d' (two e' f' x' y')
+same_draw_and_states d d' e e' f f' x x' y y' hd he hf hx hy = cc
 
 -- the same batch, so the same report
 doubled_same : (s : Setting) (d now : OpenDraw) (st : DrawAndStates) (T W : ℕ) → now.batch ≡ d.batch → T ≡ W → doubled_report s (open_machine now) st T ≡ doubled_report s (open_machine d) st W
@@ -50,12 +45,12 @@ module _ (s : Setting) (d now : OpenDraw) (t tn : Two) where
       let apart = sym (ap (λ (r : Report). r.answer) tried) in
       let draw = same_draw _ _ (ap (λ (r : Report). r.machine.out) tried ∙ ap (λ (n : Machine). n.out) (apart_machine s before here (2 ^ k) apart)) in
       goes_on s before first k here (with_two (open_one after) ta) comes (ltb-true _ _ parts.0) (ltb-true _ _ parts.1) apart
-      (same_draw_and_states _ _ _ _ draw keeps.0 keeps.1 (ap (λ (r : Report). r.low) tried) (ap (λ (r : Report). r.high) tried)))
+      (same_draw_and_states _ _ _ _ _ _ _ _ _ _ draw keeps.0 keeps.1 (ap (λ (r : Report). r.low) tried) (ap (λ (r : Report). r.high) tried)))
       (λ (t : (ltb now.tried (2 ^ k) && ltb (2 ^ k) d.batch.stretch) ≡ false).
       let passed : ◌≡◌ {A = Report} (record { answer = given false; machine = open_machine after; low = ta.low; high = ta.high }) (record { answer = given false; machine = with_out before (open_draw here.draw); low = tn.low; high = tn.high }) = rw t at doubled in
       let draw = same_draw _ _ (ap (λ (r : Report). r.machine.out) passed) in
       let on = passes s before first k here comes (λ larger below. both_ways _ t (and_from _ _ (lt-ltb _ _ larger) (lt-ltb _ _ below))) in
-      subst (ComesTo s before first (2 ^ (k + 1))) (sym (same_draw_and_states _ _ _ _ draw keeps.0 keeps.1 (ap (λ (r : Report). r.low) passed) (ap (λ (r : Report). r.high) passed))) on)
+      subst (ComesTo s before first (2 ^ (k + 1))) (sym (same_draw_and_states _ _ _ _ _ _ _ _ _ _ draw keeps.0 keeps.1 (ap (λ (r : Report). r.low) passed) (ap (λ (r : Report). r.high) passed))) on)
       (cases_Bool (ltb now.tried (2 ^ k) && ltb (2 ^ k) d.batch.stretch))
 
   pub early : (k T : ℕ) (report : Report) → T ≡ 2 ^ k → now.batch ≡ d.batch → ComesTo s before first (2 ^ k) here → report ≡ doubled_report s (open_machine now) here T → (report.answer ≡ given false → ⊥) → RunReports s before first report

@@ -5,7 +5,7 @@ use Rattle.refusal.specs.Refusals.{Refusal, given, provided}
 use Rattle.batch.specs.Histories.{Event, Has, History, event}
 use Rattle.batch.specs.Machine.{Machine, Out, drawn, met_draw, new_machine, none, open_draw}
 use Rattle.batch.specs.Ends.{Two}
-use Rattle.batch.specs.Requests.{CarriesByDraw, Said, Response, said_apart, said_misplaced}
+use Rattle.batch.specs.Requests.{CarriesByDraw, Said, Response, said_apart, said_misplaced, states_kept}
 use Rattle.batch.specs.Tallies.{Tallies, TallyCountsTheCalls, TriesOfRun, Unrolls, UnrollsOne, how_many, is_closed, is_given_up, is_opened}
 use Rattle.batch.specs.Tries.{Setting, with_two}
 use Rattle.batch.specs.declared.stage.Request.{Request}
@@ -36,14 +36,13 @@ Goes_on s q t sc gs = (fs : List Event) × UnrollsOne q (event q t sc) gs fs × 
 plain : (s : Setting) (q : Request) (t : Two) (sc : Response) (m : Machine) (gs : List Event) → History s gs m → Tallies gs m → is_run q ≡ false → CarriesByDraw s t m m.out q sc → History s (event q t sc ∷ gs) sc.machine × Tallies (event q t sc ∷ gs) sc.machine
 plain s q t sc m gs history tallies no_run carries = ((m, history, carries, refl), tally_step s t gs m m.out q sc refl no_run carries tallies)
 
+no_tries : (s : Setting) (t : Two) (sc : Response) (m : Machine) (gs : List Event) → History s gs m → Tallies gs m → sc ≡ states_kept said_misplaced m t → Goes_on s Run t sc gs
+no_tries s t sc m gs history tallies is = rw is (gs, inl (refl, refl), history, tallies)
+
 -- a run is its tries, or nothing where it is misplaced
 run_on : (s : Setting) (t : Two) (sc : Response) (m : Machine) (o : Out) (gs : List Event) → m.out ≡ o → History s gs m → Tallies gs m → CarriesByDraw s t m o Run sc → Goes_on s Run t sc gs
-run_on s t sc m none gs out history tallies is =
-    let same = sym (ap (λ (x : Response). x.machine) is) in
-    (gs, inl (ap (λ (x : Response). x.said) is, refl), subst (History s gs) same history, subst (Tallies gs) same tallies)
-run_on s t sc m (met_draw d) gs out history tallies is =
-    let same = sym (ap (λ (x : Response). x.machine) is) in
-    (gs, inl (ap (λ (x : Response). x.said) is, refl), subst (History s gs) same history, subst (Tallies gs) same tallies)
+run_on s t sc m none gs out history tallies is = no_tries s t sc m gs history tallies is
+run_on s t sc m (met_draw d) gs out history tallies is = no_tries s t sc m gs history tallies is
 run_on s t sc m (open_draw d) gs out history tallies run =
     let range = in_range s gs m history in
     let tries = run_as_tries s m (with_two d t) gs out history tallies range.0 range.1 run.0 run.1 in

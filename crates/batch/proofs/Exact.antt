@@ -31,9 +31,9 @@ alike s ordered bounded closed monotone sound q also agree es fs m n h k same e 
     let y = (exact (with_source s q) ordered bounded closed monotone also fs n k f too).0 meets in
     let first : x.draw ≡ c = cc (x.out, out) in
     let second : y.draw ≡ d = cc (y.out, comes) in
-    let numbers = ap (λ (z : Draw). z.number) first ∙ number ∙ sym (ap (λ (z : Draw). z.number) second) in
-    let fill = subst (λ (v : ℕ). CanFill q m.stretch v y.draw.tried) (sym numbers) (subst (λ (v : ℕ). CanFill q v y.draw.number y.draw.tried) (sym same) y.fills) in
-    let words = subst (λ (v : ℕ). outcome s.rule (window_words q m.stretch v y.draw.tried) ≡ met_in f.response.low) (sym numbers) (subst (λ (v : ℕ). outcome s.rule (window_words q v y.draw.number y.draw.tried) ≡ met_in f.response.low) (sym same) y.by_words) in
+    let numbers : x.draw.number ≡ y.draw.number = cc in
+    let fill : CanFill q m.stretch x.draw.number y.draw.tried = rw (numbers, same) y.fills in
+    let words : outcome s.rule (window_words q m.stretch x.draw.number y.draw.tried) ≡ met_in f.response.low = rw (numbers, same) y.by_words in
     agreeing_sources s.rule ordered bounded closed monotone s.source q sound also agree m.stretch x.draw.number x.draw.tried y.draw.tried x.fills fill e.response.low f.response.low x.by_words words
 
 pub holds : (s : Setting) (ordered : Ordered s.rule) (bounded : Bounded s.rule) (closed : Closed s.rule) (monotone : Monotone s.rule) (sound : Sound s.source) → HoldsInEveryHistory s
