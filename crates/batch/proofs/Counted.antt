@@ -1,12 +1,13 @@
 -- Every history with its runs as tries.
-use Rattle.std.proofs.Common.{◌≡◌, ℕ, ◌+◌, ◌^◌, ◌≤◌, Bool, true, false, cond, List, [], ◌∷◌, ◌++◌, sym, refl, ap, ◌∙◌, subst, inl, inr, arith}
+use Rattle.std.proofs.Common.{◌≡◌, ℕ, ◌+◌, ◌^◌, ◌≤◌, Bool, true, false, cond, List, [], ◌∷◌, ◌++◌, sym, refl, ap, ◌∙◌, subst, inl, inr}
 use Rattle.std.proofs.lemmas.Bool.{and_parts, leb-true}
 use Rattle.refusal.specs.Refusals.{Refusal, given, provided}
 use Rattle.batch.specs.Histories.{Event, Has, History, event}
 use Rattle.batch.specs.Machine.{Machine, Out, drawn, met_draw, new_machine, none, open_draw}
-use Rattle.batch.specs.Requests.{CarriesByDraw, Said, Response, Two, said_apart, said_misplaced, with_two}
+use Rattle.batch.specs.Ends.{Two}
+use Rattle.batch.specs.Requests.{CarriesByDraw, Said, Response, said_apart, said_misplaced, states_kept}
 use Rattle.batch.specs.Tallies.{Tallies, TallyCountsTheCalls, TriesOfRun, Unrolls, UnrollsOne, how_many, is_closed, is_given_up, is_opened}
-use Rattle.batch.specs.Tries.{Setting}
+use Rattle.batch.specs.Tries.{Setting, with_two}
 use Rattle.batch.specs.declared.stage.Request.{Request}
 use Rattle.batch.specs.declared.stage.Request.TheVariants.{Open, Try, Run, Close, GiveUp}
 use Rattle.batch.proofs.Responses.{carried_stretch}
@@ -15,7 +16,7 @@ use Rattle.batch.proofs.Unrolled.{run_as_tries}
 
 new_range : (stretch : ℕ) (m : Machine) (b : Bool) (c : Refusal) → provided b c (given (new_machine stretch)) ≡ given m → b ≡ true
 new_range stretch m true c e = refl
-new_range stretch m false c e = let z : ◌≡◌ {A = ℕ} 0 1 = cc in absurd (omega arith)
+new_range stretch m false c e = cc
 
 -- the stretch is from 1 to 2^20
 in_range : (s : Setting) (es : List Event) (m : Machine) → History s es m → (1 ≤ m.stretch) × (m.stretch ≤ 2 ^ 20)
@@ -35,14 +36,13 @@ Goes_on s q t sc gs = (fs : List Event) × UnrollsOne q (event q t sc) gs fs × 
 plain : (s : Setting) (q : Request) (t : Two) (sc : Response) (m : Machine) (gs : List Event) → History s gs m → Tallies gs m → is_run q ≡ false → CarriesByDraw s t m m.out q sc → History s (event q t sc ∷ gs) sc.machine × Tallies (event q t sc ∷ gs) sc.machine
 plain s q t sc m gs history tallies no_run carries = ((m, history, carries, refl), tally_step s t gs m m.out q sc refl no_run carries tallies)
 
+no_tries : (s : Setting) (t : Two) (sc : Response) (m : Machine) (gs : List Event) → History s gs m → Tallies gs m → sc ≡ states_kept said_misplaced m t → Goes_on s Run t sc gs
+no_tries s t sc m gs history tallies is = rw is (gs, inl (refl, refl), history, tallies)
+
 -- a run is its tries, or nothing where it is misplaced
 run_on : (s : Setting) (t : Two) (sc : Response) (m : Machine) (o : Out) (gs : List Event) → m.out ≡ o → History s gs m → Tallies gs m → CarriesByDraw s t m o Run sc → Goes_on s Run t sc gs
-run_on s t sc m none gs out history tallies is =
-    let same = sym (ap (λ (x : Response). x.machine) is) in
-    (gs, inl (ap (λ (x : Response). x.said) is, refl), subst (History s gs) same history, subst (Tallies gs) same tallies)
-run_on s t sc m (met_draw d) gs out history tallies is =
-    let same = sym (ap (λ (x : Response). x.machine) is) in
-    (gs, inl (ap (λ (x : Response). x.said) is, refl), subst (History s gs) same history, subst (Tallies gs) same tallies)
+run_on s t sc m none gs out history tallies is = no_tries s t sc m gs history tallies is
+run_on s t sc m (met_draw d) gs out history tallies is = no_tries s t sc m gs history tallies is
 run_on s t sc m (open_draw d) gs out history tallies run =
     let range = in_range s gs m history in
     let tries = run_as_tries s m (with_two d t) gs out history tallies range.0 range.1 run.0 run.1 in

@@ -14,12 +14,13 @@ use Rattle.refusal.specs.Refusals.{Answer, Refusal, given, provided, refused}
 use Rattle.sources.specs.Sources.{Sound}
 use Rattle.batch.specs.Faults.{tried_refusal}
 use Rattle.batch.specs.Machine.{Draw, Machine, Out, left_after, met_draw, none, one_opened, open_answer, open_draw}
-use Rattle.batch.specs.Requests.{CarriesByDraw, Said, Response, Two, states_kept, reported, said_apart, said_met, said_open, with_two}
+use Rattle.batch.specs.Ends.{Two}
+use Rattle.batch.specs.Requests.{CarriesByDraw, Said, Response, states_kept, reported, said_apart, said_met, said_open}
 use Rattle.batch.specs.Runs.{EndsAt, RunReports}
 use Rattle.batch.specs.Samples.{ApartExactlyIfTwoDiffer, Parted, Sampled, words_of}
 use Rattle.batch.specs.Tallies.{window_of}
 use Rattle.batch.specs.Histories.{Event, event, is_tried}
-use Rattle.batch.specs.Tries.{Report, Setting, DrawAndStates, ends_report, owned, refused_report, report_of, tried_to, try_report, words_of_try}
+use Rattle.batch.specs.Tries.{Report, Setting, DrawAndStates, ends_report, owned, refused_report, report_of, tried_to, try_report, words_of_try, with_two}
 use Rattle.batch.specs.declared.stage.Request.{Request}
 use Rattle.batch.specs.declared.stage.Request.TheVariants.{Open, Try, Run, Close, GiveUp}
 use Rattle.batch.proofs.Accepted.{accepted_report, accepted_when, which}
@@ -59,21 +60,19 @@ module _ (s : Setting) (ordered : Ordered s.rule) (bounded : Bounded s.rule) (cl
   ends_exact q t m d T (met_in y) window fills e =
       let arrives = arrives_in m.stretch d T y e in (
         λ _. record { draw = tried_to d T; out = refl; window = window; fills = fills; both = refl; by_words = e; arrives = arrives },
-        λ apart. let z : ◌≡◌ {A = ℕ} 0 1 = cc in absurd (omega arith),
+        λ apart. cc,
         λ _ c out.
-            let same : tried_to d T ≡ c = cc in
+            let same : c ≡ tried_to d T = cc in
             let all = arrives T (omega arith) fills in
-            subst (λ (x : Draw). (said_met ≡ said_apart → SomeEndApart s.rule (words_of s m.stretch x x.tried)) × (SomeEndApart s.rule (words_of s m.stretch x x.tried) → said_met ≡ said_apart)) same
-            (λ apart. let z : ◌≡◌ {A = ℕ} 0 1 = cc in absurd (omega arith), λ apart. absurd (apart.4 (all apart.0 apart.2 ∙ sym (all apart.1 apart.3)))),
+            rw same (λ apart. cc, λ apart. absurd (apart.4 (all apart.0 apart.2 ∙ sym (all apart.1 apart.3)))),
       )
   ends_exact q t m d T (apart_at x y) window fills e =
       let differ = (apart_where_some_differ s.rule ordered bounded closed monotone (words_of s m.stretch d T) (window_is_words s.source sound m.stretch d.number T fills)).0 x y e in (
-        λ met. let z : ◌≡◌ {A = ℕ} 0 1 = cc in absurd (omega arith),
+        λ met. cc,
         λ _. record { draw = tried_to d T; out = refl; window = window; fills = fills; by_words = e },
         λ _ c out.
-            let same : tried_to d T ≡ c = cc in
-            subst (λ (x : Draw). (said_apart ≡ said_apart → SomeEndApart s.rule (words_of s m.stretch x x.tried)) × (SomeEndApart s.rule (words_of s m.stretch x x.tried) → said_apart ≡ said_apart)) same
-            (λ _. differ, λ _. refl),
+            let same : c ≡ tried_to d T = cc in
+            rw same (λ _. differ, λ _. refl),
       )
 
   -- a try, of the window that its request names
@@ -82,7 +81,7 @@ module _ (s : Setting) (ordered : Ordered s.rule) (bounded : Bounded s.rule) (cl
       ⊎_elim
       (λ (w : (ws : List ℕ) × (given ws ≡ words_of_try s m st T)).
       let a = (accepted_when s m st T w.0 w.1).0 in
-      subst (λ (x : Response). Exact s m.stretch (event q t x)) (sym (is ∙ ap reported (accepted_report s m st T a))) (ends_exact q t m st.draw T _ window a.fills refl))
+      rw (is, accepted_report s m st T a) (ends_exact q t m st.draw T _ window a.fills refl))
       (λ (w : (c : Refusal) × (refused c ≡ words_of_try s m st T)).
       let report = ap (report_of s m st T) (sym w.1) in
       quiet s m.stretch (event q t sc) (ap (λ (x : Response). is_tried x.said) (is ∙ ap reported report)))
@@ -144,17 +143,17 @@ open_stretch m false c = refl
 -- no request changes the stretch
 pub carried_stretch : (s : Setting) (t : Two) (m : Machine) (o : Out) (q : Request) (sc : Response) → CarriesByDraw s t m o q sc → sc.machine.stretch ≡ m.stretch
 carried_stretch s t m none Open sc is = ap (λ (x : Response). x.machine.stretch) is ∙ open_stretch m _ _
-carried_stretch s t m none (Try T) sc is = ap (λ (x : Response). x.machine.stretch) is
-carried_stretch s t m none Run sc is = ap (λ (x : Response). x.machine.stretch) is
-carried_stretch s t m none Close sc is = ap (λ (x : Response). x.machine.stretch) is
-carried_stretch s t m none GiveUp sc is = ap (λ (x : Response). x.machine.stretch) is
-carried_stretch s t m (open_draw d) Open sc is = ap (λ (x : Response). x.machine.stretch) is
+carried_stretch s t m none (Try T) sc is = rw is
+carried_stretch s t m none Run sc is = rw is
+carried_stretch s t m none Close sc is = rw is
+carried_stretch s t m none GiveUp sc is = rw is
+carried_stretch s t m (open_draw d) Open sc is = rw is
 carried_stretch s t m (open_draw d) (Try T) sc is = ap (λ (x : Response). x.machine.stretch) is ∙ try_stretch s m (with_two d t) T
 carried_stretch s t m (open_draw d) Run sc h = ap (λ (x : Response). x.machine.stretch) h.2 ∙ run_stretch s m (with_two d t) h.0 h.1
-carried_stretch s t m (open_draw d) Close sc is = ap (λ (x : Response). x.machine.stretch) is
-carried_stretch s t m (open_draw d) GiveUp sc is = ap (λ (x : Response). x.machine.stretch) is
-carried_stretch s t m (met_draw d) Open sc is = ap (λ (x : Response). x.machine.stretch) is
-carried_stretch s t m (met_draw d) (Try T) sc is = ap (λ (x : Response). x.machine.stretch) is
-carried_stretch s t m (met_draw d) Run sc is = ap (λ (x : Response). x.machine.stretch) is
-carried_stretch s t m (met_draw d) Close sc is = ap (λ (x : Response). x.machine.stretch) is
-carried_stretch s t m (met_draw d) GiveUp sc is = ap (λ (x : Response). x.machine.stretch) is
+carried_stretch s t m (open_draw d) Close sc is = rw is
+carried_stretch s t m (open_draw d) GiveUp sc is = rw is
+carried_stretch s t m (met_draw d) Open sc is = rw is
+carried_stretch s t m (met_draw d) (Try T) sc is = rw is
+carried_stretch s t m (met_draw d) Run sc is = rw is
+carried_stretch s t m (met_draw d) Close sc is = rw is
+carried_stretch s t m (met_draw d) GiveUp sc is = rw is
