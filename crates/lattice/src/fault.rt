@@ -1,8 +1,10 @@
 // The refusals of rules and states. specs/Faults.antt has their numbers.
+ghost use Rattle.std.specs.Prelude.{◌≡◌};
 ghost use Rattle.lattice.specs.Faults.{shape_refusal, state_refusal};
+ghost use Rattle.lattice.specs.declared.fault.StateFault.TheVariants.{Memory};
 
 use refusal::Cause;
-use std::alloc::AllocError;
+use std::alloc::{AllocError, AllocFailed};
 
 // Why sides and a cap make no rule.
 #[derive(Clone, Copy, Debug, PartialEq, Eq)]
@@ -26,6 +28,22 @@ pub enum StateFault {
     Unlawful { cell: usize },
     // No memory was found for a state.
     Memory,
+}
+
+impl From<AllocError> for StateFault {
+    ghost from_gives = { λ _ r. r ≡ Memory };
+
+    fn from(_error: AllocError) -> StateFault {
+        StateFault::Memory
+    }
+}
+
+impl<T: Drop> From<AllocFailed<T>> for StateFault {
+    ghost from_gives = { λ _ r. r ≡ Memory };
+
+    fn from(_error: AllocFailed<T>) -> StateFault {
+        StateFault::Memory
+    }
 }
 
 impl Cause for ShapeFault {

@@ -1,2 +1,3 @@
 mod Answers
+mod Hex
 mod Traces

@@ -7,7 +7,7 @@ use Rattle.refusal.specs.Refusals.{Answer, Refusal, given, no_memory, numbered, 
 use Rattle.std.specs.List.{flat_map}
 use Rattle.std.specs.Char.{digit_char}
 use Rattle.task.specs.Answers.{spaced}
-use Rattle.session.specs.declared.trace.Move.{Move}
+use Rattle.session.specs.declared.trace.Step.{Step}
 
 abbrev pub newline : List ℕ
 newline = 10 ∷ []
@@ -45,11 +45,11 @@ hex_digits zero n = []
 hex_digits (suc k) n = digit_char (n / 2 ^ (4 * k) % 16) ∷ hex_digits k n
 
 -- The place, the word in 16 hex digits, and the site and the level that it chose.
-abbrev pub move_line : Move → List ℕ
+abbrev pub move_line : Step → List ℕ
 move_line m =
     codes "place " ++ decimal m.place ++ codes " word " ++ hex_digits 16 m.word
-    ++ codes " site " ++ decimal m.site ++ codes " level " ++ decimal m.level ++ newline
+    ++ codes " site " ++ decimal m.chosen.site ++ codes " level " ++ decimal m.chosen.level ++ newline
 
 -- A move, and behind it the cells of the state that it left.
-abbrev pub move_lines : Move → List ℕ → List ℕ
+abbrev pub move_lines : Step → List ℕ → List ℕ
 move_lines m cells = move_line m ++ printed (codes "state") cells

@@ -2,11 +2,11 @@
 #![tactic(auto)]
 
 mod batches;
+mod console;
 mod draw_lines;
 mod drawable;
 pub mod input;
 pub mod moves;
-mod output;
 mod print;
 pub mod progress;
 mod requests;

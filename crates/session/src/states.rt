@@ -3,7 +3,7 @@ ghost use Rattle.std.specs.Prelude.{◌≡◌, ◌&&◌, string_bytes, MatchResu
 ghost use Rattle.batch.specs.Machine.{drawn};
 ghost use Rattle.batch.specs.Requests.{Carries, response, two};
 ghost use Rattle.batch.specs.Stages.{said_by, stage_machine};
-ghost use Rattle.batch.specs.Tries.{setting};
+ghost use Rattle.batch.specs.Tries.{setting as set};
 ghost use Rattle.lattice.specs.Faults.{state_refusal};
 ghost use Rattle.lattice.specs.Grid.{agree};
 ghost use Rattle.refusal.specs.Refusals.{answer};
@@ -18,6 +18,14 @@ use lattice::fault::StateFault;
 use lattice::kind::Kind;
 use sources::source::Source;
 use std::alloc::Global;
+use std::mem;
+
+// A rule and a source.
+#[derive(Drop)]
+pub struct Setting<'a, K: Kind, S: Source> {
+    pub rule: &'a K,
+    pub source: &'a S,
+}
 
 #[derive(Drop)]
 pub struct States<K: Kind> {
@@ -43,35 +51,43 @@ impl<K: Kind> States<K> {
     }
 }
 
-// What a request leaves and answers, and the lines that tell the answer; none if the request did not fit.
+// The answer to a request, and the lines that tell it; none if the request did not fit.
+#[derive(Drop)]
 pub struct Answered<F: Drop> {
-    pub stage: Stage,
     pub reply: Reply<F>,
     pub lines: Result<Option<String>, StateFault>,
 }
 
-impl<K: Drawable> States<K> {
-    // Carries out a request on a batch.
-    pub fn carry_out<S: Source>(
-        &mut self,
-        heap: Global,
-        rule: &K,
-        source: &S,
-        stage: Stage,
-        request: Request,
-    ) -> Answered<S::Fault>
-        ensures carries { Carries (setting (K.meaning rule.now) (K.extent rule.now) (S.reading source.now)) (two (K.carried self.old.low) (K.carried self.old.high) (K.cells self.old.low) (K.cells self.old.high)) (stage_machine stage) request (response (said_by S.Fault.refusal result.reply) (stage_machine result.stage) (K.cells self.new.low) (K.cells self.new.high)) }
-        ensures tells { Tells (agree (K.extent rule.now) (K.carried self.new.low) && agree (K.extent rule.now) (K.carried self.new.high)) (answer_lines (said_by S.Fault.refusal result.reply) (concerned (drawn (stage_machine stage).out) (drawn (stage_machine result.stage).out)) (K.cells self.new.low) (K.cells self.new.high)) (answer (option_map string_bytes) state_refusal result.lines) }
-        ensures keeps { (K.carried self.new.low ≡ K.carried self.old.low) × (K.carried self.new.high ≡ K.carried self.old.high) }
-    {
-        let before = stage.draw();
-        let (stage, reply) = rule.carry_out(stage, request, source, &mut self.low, &mut self.high);
-        let draw = draw_concerned(before, stage.draw());
-        let lines = answer_lines(heap, rule, &reply, draw, &self.low, &self.high);
-        Answered {
+// Carries out a request on a batch.
+pub fn carry_out<K: Drawable, S: Source>(
+    heap: Global,
+    setting: &Setting<K, S>,
+    states: &mut States<K>,
+    stage: &mut Stage,
+    request: Request,
+) -> Answered<S::Fault>
+    ensures carries { Carries (set (K.meaning setting.now.rule.now) (K.extent setting.now.rule.now) (S.reading setting.now.source.now)) (two (K.carried states.old.low) (K.carried states.old.high) (K.cells states.old.low) (K.cells states.old.high)) (stage_machine stage.old) request (response (said_by S.Fault.refusal result.reply) (stage_machine stage.new) (K.cells states.new.low) (K.cells states.new.high)) }
+    ensures tells { Tells (agree (K.extent setting.now.rule.now) (K.carried states.new.low) && agree (K.extent setting.now.rule.now) (K.carried states.new.high)) (answer_lines (said_by S.Fault.refusal result.reply) (concerned (drawn (stage_machine stage.old).out) (drawn (stage_machine stage.new).out)) (K.cells states.new.low) (K.cells states.new.high)) (answer (option_map string_bytes) state_refusal result.lines) }
+    ensures keeps { (K.carried states.new.low ≡ K.carried states.old.low) × (K.carried states.new.high ≡ K.carried states.old.high) }
+{
+    let before = stage.draw();
+    let reply = mem::replace_with(stage, states, |stage, states| {
+        setting.rule.carry_out(
             stage,
-            reply,
-            lines,
-        }
-    }
+            request,
+            setting.source,
+            &mut states.low,
+            &mut states.high,
+        )
+    });
+    let draw = draw_concerned(before, stage.draw());
+    let lines = answer_lines(
+        heap,
+        setting.rule,
+        &reply,
+        draw,
+        &states.low,
+        &states.high,
+    );
+    Answered { reply, lines }
 }

@@ -1,13 +1,15 @@
 // A trace: the bottom of a rule, moved by the words of the places T, T - 1, .., 1 of a source.
-ghost use Rattle.std.specs.Prelude.{◌≡◌, IfOk};
+ghost use Rattle.std.specs.Prelude.{◌≡◌, ◌<◌, IfOk, IfSome};
 ghost use Rattle.coupling.specs.Lead.{lead};
 ghost use Rattle.coupling.specs.Windows.{window_words};
 ghost use Rattle.refusal.specs.Refusals.{answer};
 ghost use Rattle.session.specs.Traces.{Starts, after, end_of, next_answer, trace_refusal};
+ghost use Rattle.session.specs.declared.trace.TraceFault.TheVariants.{State};
 
+use crate::moves::{Move, move_by};
+use crate::print::move_lines;
 use lattice::fault::StateFault;
 use lattice::kind::Kind;
-use lattice::words::split;
 use refusal::Cause;
 use sources::source::Source;
 use std::alloc::{AllocError, Global};
@@ -17,6 +19,14 @@ use std::alloc::{AllocError, Global};
 pub enum TraceFault<F> {
     Word(F),
     State(StateFault),
+}
+
+impl<F> From<StateFault> for TraceFault<F> {
+    ghost from_gives = { λ e r. r ≡ State e };
+
+    fn from(fault: StateFault) -> TraceFault<F> {
+        TraceFault::State(fault)
+    }
 }
 
 impl<F: Cause> Cause for TraceFault<F> {
@@ -30,13 +40,12 @@ impl<F: Cause> Cause for TraceFault<F> {
     }
 }
 
-// One move: its place, the word there, and what the word chose.
+// A move of a trace: its place, the word there, and what the word chose.
 #[derive(Clone, Copy)]
-pub struct Move {
+pub struct Step {
     pub place: u64,
     pub word: u64,
-    pub site: u32,
-    pub level: u32,
+    pub chosen: Move,
 }
 
 #[derive(Drop)]
@@ -58,13 +67,11 @@ impl<K: Kind> Trace<K> {
         ensures ends { IfOk result (λ t. end_of (K.meaning rule.now) (S.reading source.now) (t.left, K.cells t.state) ≡ lead (K.meaning rule.now) (window_words (S.reading source.now) 0 0 back) (K.meaning rule.now).bottom) }
         ensures owned { IfOk result (λ t. K.carried t.state ≡ K.extent rule.now) }
     {
-        if let Err(fault) = source.word(back) {
-            return Err(TraceFault::Word(fault));
-        }
-        match rule.new_state(heap) {
-            Ok(state) => Ok(Trace { state, left: back }),
-            Err(fault) => Err(TraceFault::State(fault)),
-        }
+        let _ = source.word(back).map_err(TraceFault::Word)?;
+        Ok(Trace {
+            state: rule.new_state(heap)?,
+            left: back,
+        })
     }
 
     // The state after the moves so far.
@@ -79,7 +86,7 @@ impl<K: Kind> Trace<K> {
         &mut self,
         rule: &K,
         source: &S,
-    ) -> Result<Option<Move>, TraceFault<S::Fault>>
+    ) -> Result<Option<Step>, TraceFault<S::Fault>>
         ensures answers { answer (λ m. m) (trace_refusal S.Fault.refusal) result ≡ next_answer (K.extent rule.now) (K.carried self.old.state) (S.reading source.now) self.old.left }
         ensures leaves { (self.new.left, K.cells self.new.state) ≡ after (answer (λ m. m) (trace_refusal S.Fault.refusal) result) (K.meaning rule.now) self.old.left (K.cells self.old.state) }
         ensures keeps { K.carried self.new.state ≡ K.carried self.old.state }
@@ -89,20 +96,27 @@ impl<K: Kind> Trace<K> {
         if place == 0 {
             return Ok(None);
         }
-        let word = match source.word(place) {
-            Ok(word) => word,
-            Err(fault) => return Err(TraceFault::Word(fault)),
-        };
-        if let Err(fault) = rule.apply(&mut self.state, word) {
-            return Err(TraceFault::State(fault));
-        }
+        let word = source.word(place).map_err(TraceFault::Word)?;
+        let chosen = move_by(rule, &mut self.state, word)?;
         self.left = place - 1;
-        let (site, level) = split(word, rule.cell_count());
-        Ok(Some(Move {
+        Ok(Some(Step {
             place,
             word,
-            site,
-            level,
+            chosen,
         }))
+    }
+    // Makes the next move, and answers its lines, or none where no place is left.
+    pub(crate) fn next_lines<S: Source>(
+        &mut self,
+        heap: Global,
+        rule: &K,
+        source: &S,
+    ) -> Result<Option<String>, TraceFault<S::Fault>>
+        ensures { IfOk result (λ o. IfSome o (λ _. self.new.left < self.old.left)) }
+    {
+        let Some(step) = self.next_move(rule, source)? else {
+            return Ok(None);
+        };
+        Ok(Some(move_lines(heap, rule, step, &self.state)?))
     }
 }

@@ -1,0 +1,90 @@
+// Where the directives of a task come from, and where its answers go.
+ghost use Rattle.std.specs.Prelude.{◌≡◌, Ok, IfOk, IfSome};
+
+use crate::drawable::Drawable;
+use crate::input::Lines;
+use crate::print::refused_line;
+use crate::progress::Progress;
+use crate::stage::Stage;
+use crate::states::{Setting, States};
+use crate::trace::Trace;
+use crate::trouble::Trouble;
+use refusal::Cause;
+use sources::source::Source;
+use std::alloc::Global;
+use std::io::{Read, Write};
+use task::line::Directive;
+
+pub(crate) struct Console<'r, 'l, 'o, R: Drop, W> {
+    pub rt: &'r HostRuntime,
+    pub lines: &'l mut Lines<R>,
+    pub out: &'o mut W,
+    pub progress: Progress,
+}
+
+impl<R: Read + Drop, W: Write> Console<'_, '_, '_, R, W> {
+    pub fn heap(&self) -> Global {
+        self.rt.alloc()
+    }
+
+    // The next directive, if the stage allows it, or none at the end of the text.
+    pub fn next_allowed(&mut self, stage: Stage) -> Result<Option<Directive>, Trouble> {
+        self.lines.next_allowed(stage)
+    }
+
+    pub fn say(&mut self, text: String) -> Result<(), Trouble> {
+        Ok(self.out.write_all(text.as_bytes())?)
+    }
+
+    // What was asked for, or none where it was refused, and that has been said. Want of memory, which has no line, ends
+    // the task.
+    pub fn granted<T: Drop, C: Cause + Drop>(
+        &mut self,
+        asked: Result<T, C>,
+    ) -> Result<Option<T>, Trouble>
+        ensures { IfOk result (λ o. IfSome o (λ x. asked ≡ Ok x)) }
+    {
+        match asked {
+            Ok(value) => Ok(Some(value)),
+            Err(cause) => {
+                let line = refused_line(self.heap(), &cause)?.ok_or(Trouble::Memory)?;
+                self.say(line)?;
+                Ok(None)
+            }
+        }
+    }
+
+    // Prints the lines, or the refusal in their place.
+    pub fn say_granted<C: Cause + Drop>(
+        &mut self,
+        lines: Result<String, C>,
+    ) -> Result<(), Trouble> {
+        if let Some(lines) = self.granted(lines)? {
+            self.say(lines)?;
+        }
+        Ok(())
+    }
+
+    // Prints every move of a trace, and the state after it.
+    pub fn say_moves<K: Drawable, S: Source>(
+        &mut self,
+        setting: &Setting<K, S>,
+        back: u64,
+    ) -> Result<(), Trouble> {
+        let heap = self.heap();
+        let begun = Trace::new(heap, setting.rule, setting.source, back);
+        let Some(mut trace) = self.granted(begun)? else {
+            return Ok(());
+        };
+        while let Some(Some(lines)) =
+            self.granted(trace.next_lines(heap, setting.rule, setting.source))?
+        {
+            self.say(lines)?;
+        }
+        Ok(())
+    }
+
+    pub fn say_states<K: Drawable>(&mut self, rule: &K, states: &States<K>) -> Result<(), Trouble> {
+        self.say_granted(states.lines(self.heap(), rule))
+    }
+}
