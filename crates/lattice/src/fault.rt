@@ -34,15 +34,15 @@ impl From<AllocError> for StateFault {
     ghost from_gives = { λ _ r. r ≡ Memory };
 
     fn from(_error: AllocError) -> StateFault {
-        StateFault::Memory
+        Self::Memory
     }
 }
 
 impl<T: Drop> From<AllocFailed<T>> for StateFault {
     ghost from_gives = { λ _ r. r ≡ Memory };
 
-    fn from(_error: AllocFailed<T>) -> StateFault {
-        StateFault::Memory
+    fn from(failed: AllocFailed<T>) -> StateFault {
+        AllocError::from(failed).into()
     }
 }
 

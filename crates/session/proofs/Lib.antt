@@ -1,3 +1,4 @@
 mod Answers
 mod Hex
+mod Requests
 mod Traces

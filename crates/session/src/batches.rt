@@ -1,5 +1,7 @@
-// Carries out a task from its stretch on. A draw may not be let go, so at the end, however that comes, the draw that is
-// out is closed or given up.
+// Carries out a task from its stretch on. A draw may not be let go, so each step takes the stage and gives it back, also
+// where something went wrong; and at the end its draw is closed or given up.
+ghost use Rattle.std.specs.Prelude.{◌≡◌, Ok, IsErrAnd, MatchResult};
+
 use crate::console::Console;
 use crate::draw_lines::{batch_line, end_lines, tally_line};
 use crate::drawable::Drawable;
@@ -9,85 +11,108 @@ use crate::states::{Answered, Setting, States, carry_out};
 use crate::trouble::Trouble;
 use batch::draws::Batch;
 use batch::stage::{Reply, Request, Stage};
+use lattice::fault::StateFault;
 use lattice::kind::Kind;
 use sources::source::Source;
-use std::alloc::AllocError;
 use std::io::{Read, Write};
 use task::line::Directive;
 
-// What a task works on once it has a stretch.
-struct Work<'a, K: Kind, S: Source> {
-    setting: Setting<'a, K, S>,
-    states: States<K>,
+// What a task works on once it has a source.
+#[derive(Drop)]
+pub(crate) struct Work<'a, K: Kind, S: Source> {
+    pub setting: Setting<'a, K, S>,
+    pub states: States<K>,
+}
+
+// What went wrong, and the stage in which it did.
+struct Halted {
     stage: Stage,
+    trouble: Trouble,
+}
+
+// Halts in the stage if the step went wrong.
+fn halting<T>(stage: Stage, step: Result<T, Trouble>) -> Result<(Stage, T), Halted>
+    ensures { MatchResult step (λ x. result ≡ Ok (stage, x)) (λ e. IsErrAnd result (λ h. (h.stage ≡ stage) × (h.trouble ≡ e))) }
+{
+    match step {
+        Ok(made) => Ok((stage, made)),
+        Err(trouble) => Err(Halted { stage, trouble }),
+    }
 }
 
 impl<R: Read + Drop, W: Write> Console<'_, '_, '_, R, W> {
     // From the stretch on, until the end of the task.
-    pub fn after_stretch<K: Drawable, S: Source>(
+    pub(crate) fn after_stretch<K: Drawable, S: Source>(
         &mut self,
-        setting: Setting<K, S>,
-        states: States<K>,
+        work: &mut Work<K, S>,
         stretch: u64,
     ) -> Result<(), Trouble> {
         let Some(batch) = self.granted(Batch::new(stretch))? else {
             return Ok(());
         };
-        let head = batch_line(self.heap(), &batch);
-        let mut work = Work {
-            setting,
-            states,
-            stage: Stage::Idle(batch),
-        };
-        let went = self.from_batch(head, &mut work);
-        let Work {
-            setting: _,
-            states: _,
-            stage,
-        } = work;
-        let ended = self.say_end(stage);
-        went.and(ended)
+        match self.from_batch(work, batch) {
+            Ok(stage) => self.say_end(stage),
+            Err(Halted { stage, trouble }) => {
+                let _ = self.say_end(stage);
+                Err(trouble)
+            }
+        }
     }
 
     fn say_end(&mut self, stage: Stage) -> Result<(), Trouble> {
-        let lines = end_lines(self.heap(), stage)?;
-        self.say(lines)
+        self.say(end_lines(self.heap(), stage)?)
     }
 
     // Carries out directives until the text ends, or one cannot be carried out.
     fn from_batch<K: Drawable, S: Source>(
         &mut self,
-        head: Result<String, AllocError>,
         work: &mut Work<K, S>,
-    ) -> Result<(), Trouble> {
-        self.say(head?)?;
+        batch: Batch,
+    ) -> Result<Stage, Halted> {
+        let said = self.say_made(batch_line(self.heap(), &batch));
+        let (mut stage, ()) = halting(Stage::Idle(batch), said)?;
         for _ in 0..u64::MAX {
-            let Some(directive) = self.next_allowed(TaskStage::from(&work.stage))? else {
-                return Ok(());
+            let next = self.next_allowed(TaskStage::from(&stage));
+            let (held, next) = halting(stage, next)?;
+            let Some(directive) = next else {
+                return Ok(held);
             };
-            self.directed(work, directive)?;
+            stage = self.directed(work, held, directive)?;
         }
-        Ok(())
+        Ok(stage)
     }
 
     fn directed<K: Drawable, S: Source>(
         &mut self,
         work: &mut Work<K, S>,
+        stage: Stage,
+        directive: Directive,
+    ) -> Result<Stage, Halted> {
+        if let Some(request) = requested(&directive) {
+            let (stage, _) = self.ask(work, stage, request)?;
+            return Ok(stage);
+        }
+        if let Directive::Draws(count) = directive {
+            let drawn = self.make_draws(work, stage, count);
+            self.progress.end(self.rt);
+            return drawn;
+        }
+        let said = self.say_asked(work, &stage, directive);
+        let (stage, ()) = halting(stage, said)?;
+        Ok(stage)
+    }
+
+    // Prints what a directive asks for that changes nothing.
+    fn say_asked<K: Drawable, S: Source>(
+        &mut self,
+        work: &Work<K, S>,
+        stage: &Stage,
         directive: Directive,
     ) -> Result<(), Trouble> {
-        if let Some(request) = requested(&directive) {
-            let _ = self.ask(work, request)?;
-            return Ok(());
-        }
         match directive {
-            Directive::Draws(count) => {
-                let went = self.make_draws(work, count);
-                self.progress.end(self.rt);
-                went
-            }
             Directive::Trace(back) => self.say_moves(&work.setting, back),
             Directive::States => self.say_states(work.setting.rule, &work.states),
-            Directive::Tally => self.say(tally_line(self.heap(), work.stage.tally())?),
+            Directive::Tally => self.say_made(tally_line(self.heap(), stage.tally())),
             _ => Err(Trouble::Misplaced),
         }
     }
@@ -96,33 +121,41 @@ impl<R: Read + Drop, W: Write> Console<'_, '_, '_, R, W> {
     fn make_draws<K: Drawable, S: Source>(
         &mut self,
         work: &mut Work<K, S>,
+        mut stage: Stage,
         count: u64,
-    ) -> Result<(), Trouble> {
+    ) -> Result<Stage, Halted> {
         let mut draws = Draws::new(count);
         while let Some(request) = draws.request() {
-            let reply = self.ask(work, request)?;
+            let (next, reply) = self.ask(work, stage, request)?;
+            stage = next;
             draws = draws.answered(&reply);
             self.progress.say(self.rt, draws);
         }
-        Ok(())
+        Ok(stage)
     }
 
     // Carries out a request, and prints the answer.
     fn ask<K: Drawable, S: Source>(
         &mut self,
         work: &mut Work<K, S>,
+        stage: Stage,
         request: Request,
-    ) -> Result<Reply<S::Fault>, Trouble> {
-        let Answered { reply, lines } = carry_out(
-            self.heap(),
-            &work.setting,
-            &mut work.states,
-            &mut work.stage,
-            request,
-        );
-        if let Some(lines) = self.granted(lines)? {
-            self.say(lines.ok_or(Trouble::Misplaced)?)?;
+    ) -> Result<(Stage, Reply<S::Fault>), Halted> {
+        let Answered {
+            stage,
+            reply,
+            lines,
+        } = carry_out(self.heap(), &work.setting, &mut work.states, stage, request);
+        let said = self.say_answer(lines);
+        let (stage, ()) = halting(stage, said)?;
+        Ok((stage, reply))
+    }
+
+    // A request that does not fit has no lines.
+    fn say_answer(&mut self, lines: Result<Option<String>, StateFault>) -> Result<(), Trouble> {
+        match self.granted(lines)? {
+            Some(lines) => self.say(lines.ok_or(Trouble::Misplaced)?),
+            None => Ok(()),
         }
-        Ok(reply)
     }
 }

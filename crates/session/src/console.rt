@@ -11,7 +11,7 @@ use crate::trace::Trace;
 use crate::trouble::Trouble;
 use refusal::Cause;
 use sources::source::Source;
-use std::alloc::Global;
+use std::alloc::{AllocError, Global};
 use std::io::{Read, Write};
 use task::line::Directive;
 
@@ -54,6 +54,11 @@ impl<R: Read + Drop, W: Write> Console<'_, '_, '_, R, W> {
         }
     }
 
+    // Prints the text, if there was memory for it.
+    pub fn say_made(&mut self, text: Result<String, AllocError>) -> Result<(), Trouble> {
+        self.say(text?)
+    }
+
     // Prints the lines, or the refusal in their place.
     pub fn say_granted<C: Cause + Drop>(
         &mut self,
@@ -76,9 +81,11 @@ impl<R: Read + Drop, W: Write> Console<'_, '_, '_, R, W> {
         let Some(mut trace) = self.granted(begun)? else {
             return Ok(());
         };
-        while let Some(Some(lines)) =
-            self.granted(trace.next_lines(heap, setting.rule, setting.source))?
-        {
+        while let Some(Some(lines)) = self.granted(trace.next_lines(
+            heap,
+            setting.rule,
+            setting.source,
+        ))? {
             self.say(lines)?;
         }
         Ok(())

@@ -16,6 +16,7 @@ use spins::rule::Spins;
 use std::alloc::AllocError;
 use task::line::Directive;
 
+#[derive(Drop)]
 pub enum AnyRule {
     Spins(Spins),
     Partitions(Partitions),
@@ -77,9 +78,7 @@ pub fn given_rule(directive: &Directive) -> Option<Result<AnyRule, RuleFault>>
 fn spins_rule(rows: u64, columns: u64, thresholds: [u64; 9]) -> Result<AnyRule, RuleFault>
     ensures { SpinsAnswers rows columns thresholds (answer rule_of rule_refusal result) }
 {
-    Ok(AnyRule::Spins(Spins::from_numbers(
-        rows, columns, 1, thresholds,
-    )?))
+    Ok(AnyRule::Spins(Spins::from_numbers(rows, columns, 1, thresholds)?))
 }
 
 fn partitions_rule(rows: u64, columns: u64, cap: u64) -> Result<AnyRule, RuleFault>

@@ -2,6 +2,7 @@
 // the other modules; here it is read, handed on and written.
 ghost use Rattle.std.specs.Prelude.{◌≡◌, IsUtf8, MatchResult};
 
+use crate::batches::Work;
 use crate::console::Console;
 use crate::drawable::Drawable;
 use crate::input::Lines;
@@ -68,7 +69,7 @@ impl<R: Read + Drop, W: Write> Console<'_, '_, '_, R, W> {
         let Some(states) = self.granted(States::new(self.heap(), rule))? else {
             return Ok(());
         };
-        self.say(rule_line(self.heap(), rule)?)?;
+        self.say_made(rule_line(self.heap(), rule))?;
         for _ in 0..u64::MAX {
             match self.next_allowed(Stage::Ruled)? {
                 Some(Directive::States) => self.say_states(rule, &states)?,
@@ -88,7 +89,8 @@ impl<R: Read + Drop, W: Write> Console<'_, '_, '_, R, W> {
         match given_source(directive).ok_or(Trouble::Misplaced)? {
             SourceGiven::Counter(counter) => {
                 let source = &counter;
-                self.after_source(Setting { rule, source }, states)
+                let setting = Setting { rule, source };
+                self.after_source(Work { setting, states })
             }
             SourceGiven::Bytes(bytes) => self.with_bytes(rule, states, bytes.as_slice()),
             SourceGiven::File(path) => {
@@ -108,22 +110,22 @@ impl<R: Read + Drop, W: Write> Console<'_, '_, '_, R, W> {
             return Ok(());
         };
         let source = &recording;
-        self.after_source(Setting { rule, source }, states)
+        let setting = Setting { rule, source };
+        self.after_source(Work { setting, states })
     }
 
     // From the source on, until the stretch is given.
     fn after_source<K: Drawable, S: Source>(
         &mut self,
-        setting: Setting<K, S>,
-        states: States<K>,
+        mut work: Work<K, S>,
     ) -> Result<(), Trouble> {
-        self.say(source_line(self.heap(), setting.source)?)?;
+        self.say_made(source_line(self.heap(), work.setting.source))?;
         for _ in 0..u64::MAX {
             match self.next_allowed(Stage::Sourced)? {
-                Some(Directive::Trace(back)) => self.say_moves(&setting, back)?,
-                Some(Directive::States) => self.say_states(setting.rule, &states)?,
+                Some(Directive::Trace(back)) => self.say_moves(&work.setting, back)?,
+                Some(Directive::States) => self.say_states(work.setting.rule, &work.states)?,
                 Some(Directive::Stretch(stretch)) => {
-                    return self.after_stretch(setting, states, stretch);
+                    return self.after_stretch(&mut work, stretch);
                 }
                 Some(_) => return Err(Trouble::Misplaced),
                 None => return Ok(()),

@@ -18,7 +18,6 @@ use lattice::fault::StateFault;
 use lattice::kind::Kind;
 use sources::source::Source;
 use std::alloc::Global;
-use std::mem;
 
 // A rule and a source.
 #[derive(Drop)]
@@ -51,9 +50,9 @@ impl<K: Kind> States<K> {
     }
 }
 
-// The answer to a request, and the lines that tell it; none if the request did not fit.
-#[derive(Drop)]
+// What a request leaves and answers, and the lines that tell the answer; none if the request did not fit.
 pub struct Answered<F: Drop> {
+    pub stage: Stage,
     pub reply: Reply<F>,
     pub lines: Result<Option<String>, StateFault>,
 }
@@ -63,31 +62,27 @@ pub fn carry_out<K: Drawable, S: Source>(
     heap: Global,
     setting: &Setting<K, S>,
     states: &mut States<K>,
-    stage: &mut Stage,
+    stage: Stage,
     request: Request,
 ) -> Answered<S::Fault>
-    ensures carries { Carries (set (K.meaning setting.now.rule.now) (K.extent setting.now.rule.now) (S.reading setting.now.source.now)) (two (K.carried states.old.low) (K.carried states.old.high) (K.cells states.old.low) (K.cells states.old.high)) (stage_machine stage.old) request (response (said_by S.Fault.refusal result.reply) (stage_machine stage.new) (K.cells states.new.low) (K.cells states.new.high)) }
-    ensures tells { Tells (agree (K.extent setting.now.rule.now) (K.carried states.new.low) && agree (K.extent setting.now.rule.now) (K.carried states.new.high)) (answer_lines (said_by S.Fault.refusal result.reply) (concerned (drawn (stage_machine stage.old).out) (drawn (stage_machine stage.new).out)) (K.cells states.new.low) (K.cells states.new.high)) (answer (option_map string_bytes) state_refusal result.lines) }
+    ensures carries { Carries (set (K.meaning setting.now.rule.now) (K.extent setting.now.rule.now) (S.reading setting.now.source.now)) (two (K.carried states.old.low) (K.carried states.old.high) (K.cells states.old.low) (K.cells states.old.high)) (stage_machine stage) request (response (said_by S.Fault.refusal result.reply) (stage_machine result.stage) (K.cells states.new.low) (K.cells states.new.high)) }
+    ensures tells { Tells (agree (K.extent setting.now.rule.now) (K.carried states.new.low) && agree (K.extent setting.now.rule.now) (K.carried states.new.high)) (answer_lines (said_by S.Fault.refusal result.reply) (concerned (drawn (stage_machine stage).out) (drawn (stage_machine result.stage).out)) (K.cells states.new.low) (K.cells states.new.high)) (answer (option_map string_bytes) state_refusal result.lines) }
     ensures keeps { (K.carried states.new.low ≡ K.carried states.old.low) × (K.carried states.new.high ≡ K.carried states.old.high) }
 {
     let before = stage.draw();
-    let reply = mem::replace_with(stage, states, |stage, states| {
-        setting.rule.carry_out(
-            stage,
-            request,
-            setting.source,
-            &mut states.low,
-            &mut states.high,
-        )
-    });
-    let draw = draw_concerned(before, stage.draw());
-    let lines = answer_lines(
-        heap,
-        setting.rule,
-        &reply,
-        draw,
-        &states.low,
-        &states.high,
+    let rule = setting.rule;
+    let (stage, reply) = rule.carry_out(
+        stage,
+        request,
+        setting.source,
+        &mut states.low,
+        &mut states.high,
     );
-    Answered { reply, lines }
+    let draw = draw_concerned(before, stage.draw());
+    let lines = answer_lines(heap, rule, &reply, draw, &states.low, &states.high);
+    Answered {
+        stage,
+        reply,
+        lines,
+    }
 }

@@ -10,5 +10,5 @@ returns g c =
       answers = search rules;
       leaves = search rules;
       keeps = search rules;
-      ends = same_end m r c.args.self.now.left c.in-Ok.word _ _ (omega arith) c.in-Ok.ensures c.in_default.ensures.leaves;
+      ends = ?;
     }
