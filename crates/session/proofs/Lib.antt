@@ -1,4 +1,4 @@
 mod Answers
+mod Fewer
 mod Hex
-mod Requests
 mod Traces

@@ -1,5 +1,6 @@
 -- The lines that a task prints.
-use Rattle.std.specs.Prelude.{◌≡◌, ℕ, zero, suc, ◌*◌, ◌/◌, ◌%◌, ◌^◌, Bool, false, ◌⊎◌, List, [], ◌∷◌, ◌++◌, Some, None, codes, decimal, Option}
+use Rattle.std.specs.Prelude.{◌≡◌, ℕ, zero, suc, ◌*◌, ◌/◌, ◌%◌, ◌^◌, Bool, false, ◌&&◌, ◌⊎◌, List, [], ◌∷◌, ◌++◌, Some, None, codes, decimal, Option}
+use Rattle.batch.specs.Ends.{Two}
 use Rattle.lattice.specs.Faults.{state_refusal}
 use Rattle.lattice.specs.Grid.{Extent, agree}
 use Rattle.lattice.specs.declared.fault.StateFault.TheVariants.{Foreign}
@@ -34,6 +35,10 @@ TellsOwn rule state x a = (a ≡ provided (agree rule state) (state_refusal Fore
 -- What is told of the states of a rule. If they are not its own that may be refused, and there may be no memory.
 abbrev pub Tells : {A : Type 0} → (own : Bool) → A → Answer A → Type 0
 Tells own x a = (a ≡ given x) ⊎ ((a ≡ refused no_memory) ⊎ ((own ≡ false) × (a ≡ refused (state_refusal Foreign))))
+
+-- Whether both states are a rule's own.
+abbrev pub owns_both : Extent → Two → Bool
+owns_both rule ends = agree rule ends.low_extent && agree rule ends.high_extent
 
 -- The cells of the two states.
 abbrev pub state_lines : (low high : List ℕ) → List ℕ

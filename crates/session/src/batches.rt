@@ -2,14 +2,16 @@
 // where something went wrong; and at the end its draw is closed or given up.
 ghost use Rattle.std.specs.Prelude.{◌≡◌, Ok, IsErrAnd, MatchResult};
 
+use crate::answered::{Answered, carry_out};
 use crate::console::Console;
 use crate::draw_lines::{batch_line, end_lines, tally_line};
 use crate::drawable::Drawable;
 use crate::requests::{Draws, requested};
 use crate::stage::Stage as TaskStage;
-use crate::states::{Answered, Setting, States, carry_out};
 use crate::trouble::Trouble;
 use batch::draws::Batch;
+use batch::ends::Ends;
+use batch::setting::Setting;
 use batch::stage::{Reply, Request, Stage};
 use lattice::fault::StateFault;
 use lattice::kind::Kind;
@@ -21,7 +23,7 @@ use task::line::Directive;
 #[derive(Drop)]
 pub(crate) struct Work<'a, K: Kind, S: Source> {
     pub setting: Setting<'a, K, S>,
-    pub states: States<K>,
+    pub ends: Ends<K>,
 }
 
 // What went wrong, and the stage in which it did.
@@ -52,7 +54,8 @@ impl<R: Read + Drop, W: Write> Console<'_, '_, '_, R, W> {
         };
         match self.from_batch(work, batch) {
             Ok(stage) => self.say_end(stage),
-            Err(Halted { stage, trouble }) => {
+            Err(halted) => {
+                let Halted { stage, trouble } = halted;
                 let _ = self.say_end(stage);
                 Err(trouble)
             }
@@ -60,7 +63,7 @@ impl<R: Read + Drop, W: Write> Console<'_, '_, '_, R, W> {
     }
 
     fn say_end(&mut self, stage: Stage) -> Result<(), Trouble> {
-        self.say(end_lines(self.heap(), stage)?)
+        self.say(end_lines(self.rt.alloc(), stage)?)
     }
 
     // Carries out directives until the text ends, or one cannot be carried out.
@@ -69,10 +72,10 @@ impl<R: Read + Drop, W: Write> Console<'_, '_, '_, R, W> {
         work: &mut Work<K, S>,
         batch: Batch,
     ) -> Result<Stage, Halted> {
-        let said = self.say_made(batch_line(self.heap(), &batch));
+        let said = self.say_made(batch_line(self.rt.alloc(), &batch));
         let (mut stage, ()) = halting(Stage::Idle(batch), said)?;
         for _ in 0..u64::MAX {
-            let next = self.next_allowed(TaskStage::from(&stage));
+            let next = self.lines.next_allowed(TaskStage::from(&stage));
             let (held, next) = halting(stage, next)?;
             let Some(directive) = next else {
                 return Ok(held);
@@ -111,8 +114,8 @@ impl<R: Read + Drop, W: Write> Console<'_, '_, '_, R, W> {
     ) -> Result<(), Trouble> {
         match directive {
             Directive::Trace(back) => self.say_moves(&work.setting, back),
-            Directive::States => self.say_states(work.setting.rule, &work.states),
-            Directive::Tally => self.say_made(tally_line(self.heap(), stage.tally())),
+            Directive::States => self.say_states(work.setting.rule, &work.ends),
+            Directive::Tally => self.say_made(tally_line(self.rt.alloc(), stage.tally())),
             _ => Err(Trouble::Misplaced),
         }
     }
@@ -145,7 +148,13 @@ impl<R: Read + Drop, W: Write> Console<'_, '_, '_, R, W> {
             stage,
             reply,
             lines,
-        } = carry_out(self.heap(), &work.setting, &mut work.states, stage, request);
+        } = carry_out(
+            self.rt.alloc(),
+            &work.setting,
+            &mut work.ends,
+            stage,
+            request,
+        );
         let said = self.say_answer(lines);
         let (stage, ()) = halting(stage, said)?;
         Ok((stage, reply))

@@ -1,20 +1,21 @@
 // Where the directives of a task come from, and where its answers go.
 ghost use Rattle.std.specs.Prelude.{◌≡◌, Ok, IfOk, IfSome};
 
+use crate::draw_lines::states_lines;
 use crate::drawable::Drawable;
 use crate::input::Lines;
-use crate::print::refused_line;
+use crate::print::{move_lines, refused_line};
 use crate::progress::Progress;
-use crate::stage::Stage;
-use crate::states::{Setting, States};
 use crate::trace::Trace;
 use crate::trouble::Trouble;
+use batch::ends::Ends;
+use batch::setting::Setting;
 use refusal::Cause;
 use sources::source::Source;
-use std::alloc::{AllocError, Global};
+use std::alloc::AllocError;
 use std::io::{Read, Write};
-use task::line::Directive;
 
+#[derive(Drop)]
 pub(crate) struct Console<'r, 'l, 'o, R: Drop, W> {
     pub rt: &'r HostRuntime,
     pub lines: &'l mut Lines<R>,
@@ -23,15 +24,6 @@ pub(crate) struct Console<'r, 'l, 'o, R: Drop, W> {
 }
 
 impl<R: Read + Drop, W: Write> Console<'_, '_, '_, R, W> {
-    pub fn heap(&self) -> Global {
-        self.rt.alloc()
-    }
-
-    // The next directive, if the stage allows it, or none at the end of the text.
-    pub fn next_allowed(&mut self, stage: Stage) -> Result<Option<Directive>, Trouble> {
-        self.lines.next_allowed(stage)
-    }
-
     pub fn say(&mut self, text: String) -> Result<(), Trouble> {
         Ok(self.out.write_all(text.as_bytes())?)
     }
@@ -47,7 +39,7 @@ impl<R: Read + Drop, W: Write> Console<'_, '_, '_, R, W> {
         match asked {
             Ok(value) => Ok(Some(value)),
             Err(cause) => {
-                let line = refused_line(self.heap(), &cause)?.ok_or(Trouble::Memory)?;
+                let line = refused_line(self.rt.alloc(), &cause)?.ok_or(Trouble::Memory)?;
                 self.say(line)?;
                 Ok(None)
             }
@@ -76,22 +68,18 @@ impl<R: Read + Drop, W: Write> Console<'_, '_, '_, R, W> {
         setting: &Setting<K, S>,
         back: u64,
     ) -> Result<(), Trouble> {
-        let heap = self.heap();
-        let begun = Trace::new(heap, setting.rule, setting.source, back);
+        let heap = self.rt.alloc();
+        let begun = Trace::new(heap, setting, back);
         let Some(mut trace) = self.granted(begun)? else {
             return Ok(());
         };
-        while let Some(Some(lines)) = self.granted(trace.next_lines(
-            heap,
-            setting.rule,
-            setting.source,
-        ))? {
-            self.say(lines)?;
+        while let Some(Some(step)) = self.granted(trace.next_move(setting))? {
+            self.say_granted(move_lines(heap, setting.rule, step, trace.state()))?;
         }
         Ok(())
     }
 
-    pub fn say_states<K: Drawable>(&mut self, rule: &K, states: &States<K>) -> Result<(), Trouble> {
-        self.say_granted(states.lines(self.heap(), rule))
+    pub fn say_states<K: Drawable>(&mut self, rule: &K, ends: &Ends<K>) -> Result<(), Trouble> {
+        self.say_granted(states_lines(self.rt.alloc(), rule, ends))
     }
 }

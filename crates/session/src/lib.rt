@@ -1,6 +1,7 @@
 // Carries out a task: takes its directives in order, calls the libraries, and writes the answers to any output.
 #![tactic(auto)]
 
+mod answered;
 mod batches;
 mod console;
 mod draw_lines;
@@ -13,6 +14,5 @@ mod requests;
 pub mod rules;
 pub mod stage;
 pub mod stages;
-mod states;
 pub mod trace;
 pub mod trouble;

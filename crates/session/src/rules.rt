@@ -33,16 +33,16 @@ pub enum RuleFault {
 impl From<SpinsFault> for RuleFault {
     ghost from_gives = { λ e r. r ≡ fault.Spins e };
 
-    fn from(fault: SpinsFault) -> RuleFault {
-        RuleFault::Spins(fault)
+    fn from(cause: SpinsFault) -> RuleFault {
+        RuleFault::Spins(cause)
     }
 }
 
 impl From<ShapeFault> for RuleFault {
     ghost from_gives = { λ e r. r ≡ fault.Shape e };
 
-    fn from(fault: ShapeFault) -> RuleFault {
-        RuleFault::Shape(fault)
+    fn from(cause: ShapeFault) -> RuleFault {
+        RuleFault::Shape(cause)
     }
 }
 

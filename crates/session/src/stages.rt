@@ -10,8 +10,9 @@ use crate::print::{rule_line, source_line};
 use crate::progress::Progress;
 use crate::rules::{AnyRule, SourceGiven, given_rule, given_source};
 use crate::stage::Stage;
-use crate::states::{Setting, States};
 use crate::trouble::Trouble;
+use batch::ends::Ends;
+use batch::setting::Setting;
 use sources::recording::Recording;
 use sources::source::Source;
 use std::fs;
@@ -52,7 +53,7 @@ fn text_of(path: &[u8]) -> Result<&str, Trouble>
 
 impl<R: Read + Drop, W: Write> Console<'_, '_, '_, R, W> {
     fn from_start(&mut self) -> Result<(), Trouble> {
-        let Some(directive) = self.next_allowed(Stage::Start)? else {
+        let Some(directive) = self.lines.next_allowed(Stage::Start)? else {
             return Ok(());
         };
         let given = given_rule(&directive).ok_or(Trouble::Misplaced)?;
@@ -66,14 +67,14 @@ impl<R: Read + Drop, W: Write> Console<'_, '_, '_, R, W> {
 
     // From the rule on, until the source is given.
     fn after_rule<K: Drawable>(&mut self, rule: &K) -> Result<(), Trouble> {
-        let Some(states) = self.granted(States::new(self.heap(), rule))? else {
+        let Some(ends) = self.granted(Ends::new(self.rt.alloc(), rule))? else {
             return Ok(());
         };
-        self.say_made(rule_line(self.heap(), rule))?;
+        self.say_made(rule_line(self.rt.alloc(), rule))?;
         for _ in 0..u64::MAX {
-            match self.next_allowed(Stage::Ruled)? {
-                Some(Directive::States) => self.say_states(rule, &states)?,
-                Some(directive) => return self.with_source(rule, states, directive),
+            match self.lines.next_allowed(Stage::Ruled)? {
+                Some(Directive::States) => self.say_states(rule, &ends)?,
+                Some(directive) => return self.with_source(rule, ends, directive),
                 None => return Ok(()),
             }
         }
@@ -83,19 +84,19 @@ impl<R: Read + Drop, W: Write> Console<'_, '_, '_, R, W> {
     fn with_source<K: Drawable>(
         &mut self,
         rule: &K,
-        states: States<K>,
+        ends: Ends<K>,
         directive: Directive,
     ) -> Result<(), Trouble> {
         match given_source(directive).ok_or(Trouble::Misplaced)? {
             SourceGiven::Counter(counter) => {
                 let source = &counter;
                 let setting = Setting { rule, source };
-                self.after_source(Work { setting, states })
+                self.after_source(Work { setting, ends })
             }
-            SourceGiven::Bytes(bytes) => self.with_bytes(rule, states, bytes.as_slice()),
+            SourceGiven::Bytes(bytes) => self.with_bytes(rule, ends, bytes.as_slice()),
             SourceGiven::File(path) => {
                 let bytes = fs::read(self.rt, text_of(path.as_slice())?)?;
-                self.with_bytes(rule, states, bytes.as_slice())
+                self.with_bytes(rule, ends, bytes.as_slice())
             }
         }
     }
@@ -103,7 +104,7 @@ impl<R: Read + Drop, W: Write> Console<'_, '_, '_, R, W> {
     fn with_bytes<K: Drawable>(
         &mut self,
         rule: &K,
-        states: States<K>,
+        ends: Ends<K>,
         bytes: &[u8],
     ) -> Result<(), Trouble> {
         let Some(recording) = self.granted(Recording::new(bytes))? else {
@@ -111,7 +112,7 @@ impl<R: Read + Drop, W: Write> Console<'_, '_, '_, R, W> {
         };
         let source = &recording;
         let setting = Setting { rule, source };
-        self.after_source(Work { setting, states })
+        self.after_source(Work { setting, ends })
     }
 
     // From the source on, until the stretch is given.
@@ -119,11 +120,11 @@ impl<R: Read + Drop, W: Write> Console<'_, '_, '_, R, W> {
         &mut self,
         mut work: Work<K, S>,
     ) -> Result<(), Trouble> {
-        self.say_made(source_line(self.heap(), work.setting.source))?;
+        self.say_made(source_line(self.rt.alloc(), work.setting.source))?;
         for _ in 0..u64::MAX {
-            match self.next_allowed(Stage::Sourced)? {
+            match self.lines.next_allowed(Stage::Sourced)? {
                 Some(Directive::Trace(back)) => self.say_moves(&work.setting, back)?,
-                Some(Directive::States) => self.say_states(work.setting.rule, &work.states)?,
+                Some(Directive::States) => self.say_states(work.setting.rule, &work.ends)?,
                 Some(Directive::Stretch(stretch)) => {
                     return self.after_stretch(&mut work, stretch);
                 }

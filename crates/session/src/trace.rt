@@ -1,5 +1,5 @@
 // A trace: the bottom of a rule, moved by the words of the places T, T - 1, .., 1 of a source.
-ghost use Rattle.std.specs.Prelude.{◌≡◌, ◌<◌, IfOk, IfSome};
+ghost use Rattle.std.specs.Prelude.{◌≡◌, IfOk};
 ghost use Rattle.coupling.specs.Lead.{lead};
 ghost use Rattle.coupling.specs.Windows.{window_words};
 ghost use Rattle.refusal.specs.Refusals.{answer};
@@ -7,7 +7,7 @@ ghost use Rattle.session.specs.Traces.{Starts, after, end_of, next_answer, trace
 ghost use Rattle.session.specs.declared.trace.TraceFault.TheVariants.{State};
 
 use crate::moves::{Move, move_by};
-use crate::print::move_lines;
+use batch::setting::Setting;
 use lattice::fault::StateFault;
 use lattice::kind::Kind;
 use refusal::Cause;
@@ -24,8 +24,8 @@ pub enum TraceFault<F> {
 impl<F> From<StateFault> for TraceFault<F> {
     ghost from_gives = { λ e r. r ≡ State e };
 
-    fn from(fault: StateFault) -> TraceFault<F> {
-        TraceFault::State(fault)
+    fn from(cause: StateFault) -> TraceFault<F> {
+        TraceFault::State(cause)
     }
 }
 
@@ -59,17 +59,16 @@ impl<K: Kind> Trace<K> {
     // The bottom, before the move at the place `back`.
     pub fn new<S: Source>(
         heap: Global,
-        rule: &K,
-        source: &S,
+        setting: &Setting<K, S>,
         back: u64,
     ) -> Result<Trace<K>, TraceFault<S::Fault>>
-        ensures starts { Starts (K.meaning rule.now) (S.reading source.now) back (answer (λ t. (t.left, K.cells t.state)) (trace_refusal S.Fault.refusal) result) }
-        ensures ends { IfOk result (λ t. end_of (K.meaning rule.now) (S.reading source.now) (t.left, K.cells t.state) ≡ lead (K.meaning rule.now) (window_words (S.reading source.now) 0 0 back) (K.meaning rule.now).bottom) }
-        ensures owned { IfOk result (λ t. K.carried t.state ≡ K.extent rule.now) }
+        ensures starts { Starts (K.meaning setting.now.rule.now) (S.reading setting.now.source.now) back (answer (λ t. (t.left, K.cells t.state)) (trace_refusal S.Fault.refusal) result) }
+        ensures ends { IfOk result (λ t. end_of (K.meaning setting.now.rule.now) (S.reading setting.now.source.now) (t.left, K.cells t.state) ≡ lead (K.meaning setting.now.rule.now) (window_words (S.reading setting.now.source.now) 0 0 back) (K.meaning setting.now.rule.now).bottom) }
+        ensures owned { IfOk result (λ t. K.carried t.state ≡ K.extent setting.now.rule.now) }
     {
-        let _ = source.word(back).map_err(TraceFault::Word)?;
+        let _ = setting.source.word(back).map_err(TraceFault::Word)?;
         Ok(Trace {
-            state: rule.new_state(heap)?,
+            state: setting.rule.new_state(heap)?,
             left: back,
         })
     }
@@ -84,39 +83,24 @@ impl<K: Kind> Trace<K> {
     // Makes the next move, and answers it, or none where no place is left.
     pub fn next_move<S: Source>(
         &mut self,
-        rule: &K,
-        source: &S,
+        setting: &Setting<K, S>,
     ) -> Result<Option<Step>, TraceFault<S::Fault>>
-        ensures answers { answer (λ m. m) (trace_refusal S.Fault.refusal) result ≡ next_answer (K.extent rule.now) (K.carried self.old.state) (S.reading source.now) self.old.left }
-        ensures leaves { (self.new.left, K.cells self.new.state) ≡ after (answer (λ m. m) (trace_refusal S.Fault.refusal) result) (K.meaning rule.now) self.old.left (K.cells self.old.state) }
+        ensures answers { answer (λ m. m) (trace_refusal S.Fault.refusal) result ≡ next_answer (K.extent setting.now.rule.now) (K.carried self.old.state) (S.reading setting.now.source.now) self.old.left }
+        ensures leaves { (self.new.left, K.cells self.new.state) ≡ after (answer (λ m. m) (trace_refusal S.Fault.refusal) result) (K.meaning setting.now.rule.now) self.old.left (K.cells self.old.state) }
         ensures keeps { K.carried self.new.state ≡ K.carried self.old.state }
-        ensures ends { end_of (K.meaning rule.now) (S.reading source.now) (self.new.left, K.cells self.new.state) ≡ end_of (K.meaning rule.now) (S.reading source.now) (self.old.left, K.cells self.old.state) }
+        ensures ends { end_of (K.meaning setting.now.rule.now) (S.reading setting.now.source.now) (self.new.left, K.cells self.new.state) ≡ end_of (K.meaning setting.now.rule.now) (S.reading setting.now.source.now) (self.old.left, K.cells self.old.state) }
     {
         let place = self.left;
         if place == 0 {
             return Ok(None);
         }
-        let word = source.word(place).map_err(TraceFault::Word)?;
-        let chosen = move_by(rule, &mut self.state, word)?;
+        let word = setting.source.word(place).map_err(TraceFault::Word)?;
+        let chosen = move_by(setting.rule, &mut self.state, word)?;
         self.left = place - 1;
         Ok(Some(Step {
             place,
             word,
             chosen,
         }))
-    }
-    // Makes the next move, and answers its lines, or none where no place is left.
-    pub(crate) fn next_lines<S: Source>(
-        &mut self,
-        heap: Global,
-        rule: &K,
-        source: &S,
-    ) -> Result<Option<String>, TraceFault<S::Fault>>
-        ensures { IfOk result (λ o. IfSome o (λ _. self.new.left < self.old.left)) }
-    {
-        let Some(step) = self.next_move(rule, source)? else {
-            return Ok(None);
-        };
-        Ok(Some(move_lines(heap, rule, step, &self.state)?))
     }
 }
