@@ -1,19 +1,34 @@
 -- What stands past the blanks, from the front and from the back.
-use Rattle.std.proofs.Common.{◌≡◌, ℕ, Bool, true, false, List, [], ◌∷◌, ◌++◌, reverse, sym, refl, ap, ◌∙◌, inl, inr, arith}
+use Rattle.std.proofs.Common.{◌≡◌, ℕ, ◌-◌, ◌≤◌, Bool, List, [], ◌∷◌, ◌++◌, length, take, drop, reverse, sym, refl, ap, ◌∙◌, inl, inr, arith}
 use Rattle.std.proofs.ByRecursion.{All-push}
-use Rattle.std.proofs.lemmas.List.{reverse-append, reverse-reverse}
+use Rattle.std.proofs.Math.Seq.{drop-append_seam}
+use Rattle.std.proofs.lemmas.List.{length-drop, length-reverse, reverse-append, reverse-reverse, take-append-drop, take_rest}
+use Rattle.std.proofs.lemmas.List.Sums.{prefix_len-le-length}
 use Rattle.std.proofs.lemmas.Bool.{cases_Bool}
-use Rattle.std.specs.List.{AllByRecursion}
+use Rattle.std.specs.List.{AllByRecursion, prefix_len}
 use Rattle.task.specs.Laws.{Blank, Solid, Trims}
 use Rattle.task.specs.Text.{blank, past, trimmed}
-use Rattle.task.proofs.Cuts.{lead}
+use Rattle.task.proofs.Cuts.{drop_leading, lead}
 
-module _ (test : ℕ → Bool) where
-  pub past_back_yes : (xs : List ℕ) (b : ℕ) → test b ≡ true → past test (reverse (xs ++ b ∷ [])) ≡ past test (reverse xs)
-  past_back_yes xs b e = rw (reverse-append, e)
+-- All but the last k elements.
+reverse_drop : (xs : List ℕ) (k : ℕ) → k ≤ length xs → reverse (drop k (reverse xs)) ≡ take (length xs - k) xs
+reverse_drop xs k within =
+    let front = take (length xs - k) xs in
+    let back = drop (length xs - k) xs in
+    let whole : reverse xs ≡ reverse back ++ reverse front = ap reverse (sym (take-append-drop (length xs - k) xs)) ∙ reverse-append front back in
+    let long : k ≡ length (reverse back) = omega (arith, length-reverse back, length-drop (length xs - k) xs) in
+    ap (λ ys. reverse (drop k ys)) whole
+    ∙ ap (λ n. reverse (drop n (reverse back ++ reverse front))) long
+    ∙ ap reverse (drop-append_seam (reverse back) (reverse front))
+    ∙ reverse-reverse front
 
-  pub past_back_no : (xs : List ℕ) (b : ℕ) → test b ≡ false → past test (reverse (xs ++ b ∷ [])) ≡ reverse (xs ++ b ∷ [])
-  past_back_no xs b e = rw (reverse-append, e)
+-- A text without its leading or its trailing bytes that pass the test.
+pub past_front : (test : ℕ → Bool) (xs : List ℕ) (n : ℕ) → n ≡ prefix_len test xs → take (length xs - n) (drop n xs) ≡ past test xs
+past_front test xs n many = take_rest xs n ∙ ap (λ k. drop k xs) many ∙ drop_leading test xs
+
+pub past_back : (test : ℕ → Bool) (xs : List ℕ) (n : ℕ) → n ≡ prefix_len test (reverse xs) → take (length xs - n) xs ≡ reverse (past test (reverse xs))
+past_back test xs n many =
+    sym (reverse_drop xs n (omega (arith, prefix_len-le-length test (reverse xs), length-reverse xs))) ∙ ap (λ k. reverse (drop k (reverse xs))) many ∙ ap reverse (drop_leading test (reverse xs))
 
 all_reverse : (P : ℕ → Type 0) (xs : List ℕ) → AllByRecursion P xs → AllByRecursion P (reverse xs)
 all_reverse P [] h = tt

@@ -1,7 +1,6 @@
 pub mod Cuts
 pub mod Ends
 pub mod Hex
-pub mod Names
 pub mod Places
 pub mod Spaces
 pub mod Steps

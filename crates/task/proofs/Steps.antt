@@ -38,9 +38,3 @@ pub behind_all : (n i : ℕ) (ws : List (List ℕ)) (xs : List ℕ) (r : Result 
 unfolding numbers_due
 behind_all n i [] xs r all e = rw (no_more n i all, e, append-nil)
 behind_all n i (w ∷ ws) xs r all e = rw (no_more n i all, e)
-
--- One word of bytes, and then what `end` says of the words behind it.
-pub bytes_then : (ws vs : List (List ℕ)) (w bs : List ℕ) (o : Option (List ℕ)) (r : Result (Unit {0}) Expected) → Some w ≡ first ws → vs ≡ drop 1 ws → o ≡ hex_bytes w → o ≡ Some bs → r ≡ at_end vs tt → with_it r (λ _. Ok bs) ≡ bytes_due ws
-bytes_then [] vs w bs o r word rest read some end = let no : ◌≡◌ {A = ℕ} 0 1 = cc in absurd (omega arith)
-bytes_then (x ∷ []) vs w bs o r word rest read some end = let same : x ≡ w = cc in rw (end, rest, same, ← read, some)
-bytes_then (x ∷ y ∷ ws) vs w bs o r word rest read some end = let same : x ≡ w = cc in rw (end, rest, same, ← read, some)

@@ -1,10 +1,11 @@
 -- What a directive is given: numbers, bytes or a path. Each is read from the words behind the directive's, and where
 -- it cannot be read, the answer is what was expected first.
-use Rattle.std.specs.Prelude.{ℕ, zero, suc, List, [], ◌∷◌, drop, Ok, Err, codes, Result}
+use Rattle.std.specs.Prelude.{◌≡◌, ℕ, zero, suc, List, [], ◌∷◌, drop, Ok, Err, codes, Result}
 use Rattle.std.specs.Option.{ok_or}
 use Rattle.task.specs.Text.{number, hex_bytes}
 use Rattle.task.specs.declared.line.Expected.{Expected}
 use Rattle.task.specs.declared.line.Expected.TheVariants.{Directive, Number, Hex, Path, End}
+use Rattle.task.specs.declared.line.LineFault.{LineFault}
 
 -- What follows from what was read.
 abbrev pub with_it : {A B : Type 0} → Result A Expected → (A → Result B Expected) → Result B Expected
@@ -13,6 +14,12 @@ with_it (Err e) f = Err e
 
 abbrev pub read_as : {A B : Type 0} → (A → B) → Result A Expected → Result B Expected
 read_as f r = with_it r (λ x. Ok (f x))
+
+-- What a reading says is what is due, unless memory was wanting.
+abbrev pub UnlessMemory : {A B : Type 0} → (Result A Expected → B) → Result A LineFault → B → Type 0
+UnlessMemory says (Ok x) due = says (Ok x) ≡ due
+UnlessMemory says (Err (LineFault.Expected e)) due = says (Err e) ≡ due
+UnlessMemory says (Err LineFault.Memory) due = Unit {0}
 
 -- Nothing more stands on the line.
 abbrev pub at_end : {A : Type 0} → List (List ℕ) → A → Result A Expected

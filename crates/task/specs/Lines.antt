@@ -1,7 +1,7 @@
 -- What a line of a task means.
 use Rattle.std.specs.Prelude.{ℕ, Bool, cond, List, [], ◌∷◌, drop, Some, None, Ok, Err, vec_items, codes, Option, Result, ◌==◌, slice_index}
-use Rattle.std.specs.Borrow.{Bor}
-use Rattle.std.specs.Option.{ok_or}
+use Rattle.std.specs.List.{find}
+use Rattle.std.specs.Option.{ok_or, option_map}
 use Rattle.std.specs.Str.{bytes_eq}
 use Rattle.task.specs.Fields.{at_end, bytes_due, numbers_due, path_due, read_as, with_it}
 use Rattle.task.specs.Text.{after_word, first, trimmed, words}
@@ -10,7 +10,6 @@ use Rattle.task.specs.declared.line.Directive.TheVariants.{Spins, Partitions, Se
 use Rattle.task.specs.declared.line.Expected.{Expected}
 use Rattle.task.specs.declared.line.Expected.TheVariants.{Directive as a_directive}
 use Rattle.task.specs.declared.directives.Name.{Name}
-use Rattle.task.specs.declared.line.Reading as reading
 
 -- What a directive asks for.
 pub data Request : Type 0 where
@@ -56,17 +55,9 @@ names =
     ∷ (codes "tally", Name.Tally)
     ∷ []
 
--- An entry of the program's table of names.
-abbrev pub meant : Bor (List ℕ) × Name → List ℕ × Name
-meant e = (e.0.now, e.1)
-
--- The directive among these that the word names.
-abbrev pub among : List (List ℕ × Name) → List ℕ → Option Name
-among [] w = None
-among (n ∷ ns) w = cond (bytes_eq n.0 w) (Some n.1) (among ns w)
-
+-- The directive that the word names.
 unfoldable pub name_of : List ℕ → Option Name
-name_of w = among names w
+name_of w = option_map (λ n. n.1) (find (λ n. bytes_eq n.0 w) names)
 
 -- The request of each directive, by what stands behind its name.
 abbrev pub request : Name → List ℕ → Result Request Expected
@@ -122,7 +113,8 @@ request_of (Draws n) = draws n
 request_of States = states
 request_of Tally = tally
 
-abbrev pub meaning_of : reading.Reading → Line
-meaning_of reading.TheVariants.PassedOver = passed_over
-meaning_of (reading.TheVariants.Directive d) = directive (request_of d)
-meaning_of (reading.TheVariants.Unreadable e) = unreadable e
+-- What a reading of a line says.
+abbrev pub meaning_of : Result (Option Directive) Expected → Line
+meaning_of (Ok None) = passed_over
+meaning_of (Ok (Some d)) = directive (request_of d)
+meaning_of (Err e) = unreadable e

@@ -1,13 +1,15 @@
 // The directives: their names, and how each is read from the rest of its line.
-ghost use Rattle.std.specs.Prelude.{◌≡◌, map, IfOk};
-ghost use Rattle.task.specs.Fields.{at_end, read_as};
-ghost use Rattle.task.specs.Lines.{among, meant, name_of, request, request_of};
+ghost use Rattle.std.specs.Prelude.{◌≡◌};
+ghost use Rattle.std.specs.Option.{ok_or};
+ghost use Rattle.task.specs.Fields.{UnlessMemory, at_end, read_as};
+ghost use Rattle.task.specs.Lines.{name_of, request, request_of};
 ghost use Rattle.task.specs.Text.{left, words};
+ghost use Rattle.task.specs.declared.line.Expected.{Expected};
 
-use crate::fields::{bytes, end, numbers, path};
-use crate::line::{Directive, Expected};
+use crate::fields::{bytes, end, numbers, one_number, path};
+use crate::line::{Directive, Expected, LineFault};
 use crate::words::Words;
-use std::alloc::{AllocError, Global};
+use std::alloc::Global;
 
 #[derive(Clone, Copy)]
 pub enum Name {
@@ -48,131 +50,54 @@ const NAMES: [(&[u8], Name); 16] = [
     (b"tally", Name::Tally),
 ];
 
-impl Name {
-    // The name that this word is.
-    pub fn of(word: &[u8]) -> Option<Name>
-        ensures { result ≡ name_of word.now }
-    {
-        look_up(&NAMES, word)
+// The name that a word is.
+impl TryFrom<&[u8]> for Name {
+    type Error = Expected;
+
+    ghost try_from_gives = { λ word r. r ≡ ok_or (name_of word.now) Expected.Directive };
+
+    fn try_from(word: &[u8]) -> Result<Name, Expected> {
+        let entry = NAMES.iter().find(|(text, _)| *text == word);
+        entry.map(|(_, name)| *name).ok_or(Expected::Directive)
     }
 }
 
-fn look_up(table: &[(&[u8], Name)], word: &[u8]) -> Option<Name>
-    ensures { result ≡ among (map meant table.now) word.now }
-{
-    for (text, name) in table {
-        if *text == word {
-            return Some(*name);
-        }
-    }
-    None
-}
-
-pub fn read_directive(
-    heap: Global,
-    name: Name,
-    rest: Words,
-) -> Result<Result<Directive, Expected>, AllocError>
-    ensures { IfOk result (λ x. read_as request_of x ≡ request name (left rest.entry)) }
+// What a directive asks for, by the rest of its line.
+pub fn read_directive(heap: Global, name: Name, rest: Words) -> Result<Directive, LineFault>
+    ensures { UnlessMemory (read_as request_of) result (request name (left rest.entry)) }
 {
     match name {
-        Name::Spins => Ok(spins(rest)),
-        Name::Partitions => Ok(partitions(rest)),
-        Name::Sets => Ok(sets(rest)),
-        Name::Seed => Ok(seed(rest)),
-        Name::Recording => recording(heap, rest),
-        Name::RecordingFile => recording_file(heap, rest),
-        Name::Trace => Ok(trace(rest)),
-        Name::Stretch => Ok(stretch(rest)),
-        Name::Open => Ok(bare(rest, Directive::Open)),
-        Name::Try => Ok(try_window(rest)),
-        Name::Run => Ok(bare(rest, Directive::Run)),
-        Name::Close => Ok(bare(rest, Directive::Close)),
-        Name::GiveUp => Ok(bare(rest, Directive::GiveUp)),
-        Name::Draws => Ok(draws(rest)),
-        Name::States => Ok(bare(rest, Directive::States)),
-        Name::Tally => Ok(bare(rest, Directive::Tally)),
+        Name::Spins => {
+            let [rows, columns, t0, t1, t2, t3, t4, t5, t6, t7, t8] = numbers::<11>(rest)?;
+            let thresholds = [t0, t1, t2, t3, t4, t5, t6, t7, t8];
+            Ok(Directive::Spins {
+                rows,
+                columns,
+                thresholds,
+            })
+        }
+        Name::Partitions => {
+            let [rows, columns, cap] = numbers::<3>(rest)?;
+            Ok(Directive::Partitions { rows, columns, cap })
+        }
+        Name::Sets => {
+            let [rows, columns] = numbers::<2>(rest)?;
+            Ok(Directive::Sets { rows, columns })
+        }
+        Name::Seed => Ok(Directive::Seed(one_number(rest)?)),
+        Name::Recording => Ok(Directive::Recording(bytes(heap, rest)?)),
+        Name::RecordingFile => Ok(Directive::RecordingFile(path(heap, rest)?)),
+        Name::Trace => Ok(Directive::Trace(one_number(rest)?)),
+        Name::Stretch => Ok(Directive::Stretch(one_number(rest)?)),
+        Name::Open => Ok(bare(rest, Directive::Open)?),
+        Name::Try => Ok(Directive::Try(one_number(rest)?)),
+        Name::Run => Ok(bare(rest, Directive::Run)?),
+        Name::Close => Ok(bare(rest, Directive::Close)?),
+        Name::GiveUp => Ok(bare(rest, Directive::GiveUp)?),
+        Name::Draws => Ok(Directive::Draws(one_number(rest)?)),
+        Name::States => Ok(bare(rest, Directive::States)?),
+        Name::Tally => Ok(bare(rest, Directive::Tally)?),
     }
-}
-
-fn spins(rest: Words) -> Result<Directive, Expected>
-    ensures { read_as request_of result ≡ request Name.Spins (left rest.entry) }
-{
-    let fields = numbers::<11>(rest)?;
-    let [rows, columns, t0, t1, t2, t3, t4, t5, t6, t7, t8] = fields;
-    let thresholds = [t0, t1, t2, t3, t4, t5, t6, t7, t8];
-    Ok(Directive::Spins {
-        rows,
-        columns,
-        thresholds,
-    })
-}
-
-fn partitions(rest: Words) -> Result<Directive, Expected>
-    ensures { read_as request_of result ≡ request Name.Partitions (left rest.entry) }
-{
-    let [rows, columns, cap] = numbers::<3>(rest)?;
-    Ok(Directive::Partitions { rows, columns, cap })
-}
-
-fn sets(rest: Words) -> Result<Directive, Expected>
-    ensures { read_as request_of result ≡ request Name.Sets (left rest.entry) }
-{
-    let [rows, columns] = numbers::<2>(rest)?;
-    Ok(Directive::Sets { rows, columns })
-}
-
-fn seed(rest: Words) -> Result<Directive, Expected>
-    ensures { read_as request_of result ≡ request Name.Seed (left rest.entry) }
-{
-    let [number] = numbers::<1>(rest)?;
-    Ok(Directive::Seed(number))
-}
-
-fn recording(heap: Global, rest: Words) -> Result<Result<Directive, Expected>, AllocError>
-    ensures { IfOk result (λ x. read_as request_of x ≡ request Name.Recording (left rest.entry)) }
-{
-    match bytes(heap, rest)? {
-        Ok(bytes) => Ok(Ok(Directive::Recording(bytes))),
-        Err(expected) => Ok(Err(expected)),
-    }
-}
-
-fn recording_file(heap: Global, rest: Words) -> Result<Result<Directive, Expected>, AllocError>
-    ensures { IfOk result (λ x. read_as request_of x ≡ request Name.RecordingFile (left rest.entry)) }
-{
-    match path(heap, rest)? {
-        Ok(path) => Ok(Ok(Directive::RecordingFile(path))),
-        Err(expected) => Ok(Err(expected)),
-    }
-}
-
-fn trace(rest: Words) -> Result<Directive, Expected>
-    ensures { read_as request_of result ≡ request Name.Trace (left rest.entry) }
-{
-    let [number] = numbers::<1>(rest)?;
-    Ok(Directive::Trace(number))
-}
-
-fn stretch(rest: Words) -> Result<Directive, Expected>
-    ensures { read_as request_of result ≡ request Name.Stretch (left rest.entry) }
-{
-    let [number] = numbers::<1>(rest)?;
-    Ok(Directive::Stretch(number))
-}
-
-fn try_window(rest: Words) -> Result<Directive, Expected>
-    ensures { read_as request_of result ≡ request Name.Try (left rest.entry) }
-{
-    let [number] = numbers::<1>(rest)?;
-    Ok(Directive::Try(number))
-}
-
-fn draws(rest: Words) -> Result<Directive, Expected>
-    ensures { read_as request_of result ≡ request Name.Draws (left rest.entry) }
-{
-    let [number] = numbers::<1>(rest)?;
-    Ok(Directive::Draws(number))
 }
 
 // A directive that is its name alone.

@@ -1,12 +1,12 @@
 // What stands behind a directive's name: numbers, bytes in hex, or a path.
-ghost use Rattle.std.specs.Prelude.{◌≡◌, drop, IfOk, vec_items};
-ghost use Rattle.task.specs.Fields.{at_end, bytes_due, number_due, numbers_due, path_due, read_as};
+ghost use Rattle.std.specs.Prelude.{◌≡◌, [], ◌∷◌, drop, vec_items};
+ghost use Rattle.task.specs.Fields.{UnlessMemory, at_end, bytes_due, number_due, numbers_due, path_due, read_as};
 ghost use Rattle.task.specs.Text.{left, trimmed, words};
 
-use crate::line::Expected;
+use crate::line::{Expected, LineFault};
 use crate::numerals::{hex_bytes, number};
 use crate::words::Words;
-use std::alloc::{AllocError, Global};
+use std::alloc::Global;
 
 // Just `N` numbers.
 pub fn numbers<const N: usize>(mut rest: Words) -> Result<[u64; N], Expected>
@@ -20,31 +20,33 @@ pub fn numbers<const N: usize>(mut rest: Words) -> Result<[u64; N], Expected>
     Ok(found)
 }
 
-// Just one word of bytes in hex.
-pub fn bytes(heap: Global, mut rest: Words) -> Result<Result<Vec<u8>, Expected>, AllocError>
-    ensures { IfOk result (λ x. read_as vec_items x ≡ bytes_due (words (left rest.entry))) }
+// Just one number.
+pub fn one_number(rest: Words) -> Result<u64, Expected>
+    ensures { read_as (λ n. n ∷ []) result ≡ numbers_due 1 (words (left rest.entry)) }
 {
-    let Some(word) = rest.next_word() else {
-        return Ok(Err(Expected::Hex));
-    };
-    let Some(bytes) = hex_bytes(heap, word)? else {
-        return Ok(Err(Expected::Hex));
-    };
-    match end(rest) {
-        Ok(()) => Ok(Ok(bytes)),
-        Err(expected) => Ok(Err(expected)),
-    }
+    let [number] = numbers::<1>(rest)?;
+    Ok(number)
+}
+
+// Just one word of bytes in hex.
+pub fn bytes(heap: Global, mut rest: Words) -> Result<Vec<u8>, LineFault>
+    ensures { UnlessMemory (read_as vec_items) result (bytes_due (words (left rest.entry))) }
+{
+    let word = rest.next_word().ok_or(Expected::Hex)?;
+    let bytes = hex_bytes(heap, word)?.ok_or(Expected::Hex)?;
+    end(rest)?;
+    Ok(bytes)
 }
 
 // The rest of the line, which is not empty.
-pub fn path(heap: Global, rest: Words) -> Result<Result<Vec<u8>, Expected>, AllocError>
-    ensures { IfOk result (λ x. read_as vec_items x ≡ path_due (trimmed (left rest.entry))) }
+pub fn path(heap: Global, rest: Words) -> Result<Vec<u8>, LineFault>
+    ensures { UnlessMemory (read_as vec_items) result (path_due (trimmed (left rest.entry))) }
 {
     let path = rest.trimmed();
     if path.is_empty() {
-        return Ok(Err(Expected::Path));
+        return Err(LineFault::Expected(Expected::Path));
     }
-    Ok(Ok(path.to_vec(heap)?))
+    Ok(path.to_vec(heap)?)
 }
 
 // No word is left.
@@ -61,8 +63,5 @@ fn next_number(rest: &mut Words) -> Result<u64, Expected>
     ensures value { result ≡ number_due (words (left rest.old)) }
     ensures more { words (left rest.new) ≡ drop 1 (words (left rest.old)) }
 {
-    match rest.next_word() {
-        Some(word) => number(word).ok_or(Expected::Number),
-        None => Err(Expected::Number),
-    }
+    rest.next_word().and_then(number).ok_or(Expected::Number)
 }

@@ -1,20 +1,13 @@
 // A line of a task: what it asks for, or what was expected in its place.
-ghost use Rattle.std.specs.Prelude.{◌≡◌, IfOk, Some};
-ghost use Rattle.task.specs.Fields.{wording};
+ghost use Rattle.std.specs.Prelude.{◌≡◌, Some};
+ghost use Rattle.task.specs.Fields.{UnlessMemory, wording};
+ghost use Rattle.task.specs.declared.line.LineFault.{LineFault};
 ghost use Rattle.task.specs.Lines.{line_meaning, meaning_of};
 
 use crate::directives::{Name, read_directive};
 use crate::words::Words;
 use std::alloc::{AllocError, Global};
 use std::fmt;
-
-#[derive(Debug, Drop)]
-pub enum Reading {
-    // No word, or a remark.
-    PassedOver,
-    Directive(Directive),
-    Unreadable(Expected),
-}
 
 #[derive(Debug, Drop)]
 pub enum Directive {
@@ -71,22 +64,39 @@ impl fmt::Display for Expected {
     }
 }
 
-// What a line means, without its line end.
-pub fn read_line(heap: Global, line: &[u8]) -> Result<Reading, AllocError>
-    ensures { IfOk result (λ x. meaning_of x ≡ line_meaning line.now) }
+// Why a line could not be read.
+#[derive(Clone, Copy, Debug, PartialEq, Eq)]
+pub enum LineFault {
+    Expected(Expected),
+    Memory,
+}
+
+impl From<Expected> for LineFault {
+    ghost from_gives = { λ e r. r ≡ LineFault.Expected e };
+
+    fn from(expected: Expected) -> LineFault {
+        LineFault::Expected(expected)
+    }
+}
+
+impl From<AllocError> for LineFault {
+    ghost from_gives = { λ _ r. r ≡ LineFault.Memory };
+
+    fn from(_error: AllocError) -> LineFault {
+        LineFault::Memory
+    }
+}
+
+// What a line asks for, without its line end; nothing where it has no word or is a remark.
+pub fn read_line(heap: Global, line: &[u8]) -> Result<Option<Directive>, LineFault>
+    ensures { UnlessMemory meaning_of result (line_meaning line.now) }
 {
     let mut rest = Words::new(line);
-    let Some(word) = rest.next_word() else {
-        return Ok(Reading::PassedOver);
-    };
-    if word[0] == b'#' {
-        return Ok(Reading::PassedOver);
-    }
-    let Some(name) = Name::of(word) else {
-        return Ok(Reading::Unreadable(Expected::Directive));
-    };
-    match read_directive(heap, name, rest)? {
-        Ok(directive) => Ok(Reading::Directive(directive)),
-        Err(expected) => Ok(Reading::Unreadable(expected)),
+    match rest.next_word() {
+        None | Some([b'#', ..]) => Ok(None),
+        Some(word) => {
+            let name = Name::try_from(word)?;
+            Ok(Some(read_directive(heap, name, rest)?))
+        }
     }
 }

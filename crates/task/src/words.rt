@@ -16,7 +16,6 @@ impl<'a> Words<'a> {
         ensures all { left result ≡ line.now }
         ensures law { Spaced line.now (words (left result)) }
     {
-        words_are_spaced(line);
         Words { rest: line }
     }
 
@@ -26,9 +25,10 @@ impl<'a> Words<'a> {
         ensures rest { left self.new ≡ after_word (left self.old) }
         ensures more { words (left self.new) ≡ drop 1 (words (left self.old)) }
     {
-        let (word, rest) = cut_word(self.rest);
+        let text = trim_start(self.rest);
+        let (word, rest) = text.split_at(word_len(text));
         self.rest = rest;
-        word
+        if word.is_empty() { None } else { Some(word) }
     }
 
     // All that is left, without the blanks at its ends.
@@ -36,36 +36,8 @@ impl<'a> Words<'a> {
         ensures value { result.now ≡ trimmed (left self.entry) }
         ensures law { Trims (left self.entry) result.now }
     {
-        trim(self.rest)
+        trim_end(trim_start(self.rest))
     }
-}
-
-// Does nothing: its promise is the law of the words of a line, for the proof of what calls it.
-fn words_are_spaced(line: &[u8])
-    ensures { Spaced line.now (words line.now) }
-{}
-
-// The first word, and what stands behind it.
-fn cut_word(text: &[u8]) -> (Option<&[u8]>, &[u8])
-    ensures word { option_map (λ x. x.now) result.0 ≡ first (words text.now) }
-    ensures rest { result.1.now ≡ after_word text.now }
-    ensures more { words result.1.now ≡ drop 1 (words text.now) }
-{
-    let solid_text = trim_start(text);
-    let (word, rest) = solid_text.split_at(word_len(solid_text));
-    if word.is_empty() {
-        (None, rest)
-    } else {
-        (Some(word), rest)
-    }
-}
-
-// The text without the blanks at its ends.
-fn trim(text: &[u8]) -> &[u8]
-    ensures value { result.now ≡ trimmed text.now }
-    ensures law { Trims text.now result.now }
-{
-    trim_end(trim_start(text))
 }
 
 fn is_blank(byte: u8) -> bool
@@ -74,38 +46,27 @@ fn is_blank(byte: u8) -> bool
     matches!(byte, b' ' | b'\t' | b'\r')
 }
 
-fn trim_start(mut text: &[u8]) -> &[u8]
+fn trim_start(text: &[u8]) -> &[u8]
     ensures { result.now ≡ past blank text.now }
 {
-    while let Some((first, rest)) = text.split_first() {
-        if !is_blank(*first) {
-            break;
-        }
-        text = rest;
-    }
-    text
+    let blanks = text.iter().take_while(|byte| is_blank(**byte)).count();
+    &text[blanks..]
 }
 
-fn trim_end(mut text: &[u8]) -> &[u8]
+fn trim_end(text: &[u8]) -> &[u8]
     ensures { result.now ≡ reverse (past blank (reverse text.now)) }
 {
-    while let Some((last, rest)) = text.split_last() {
-        if !is_blank(*last) {
-            break;
-        }
-        text = rest;
-    }
-    text
+    let blanks = text
+        .iter()
+        .rev()
+        .take_while(|byte| is_blank(**byte))
+        .count();
+    &text[..text.len() - blanks]
 }
 
 // How many bytes stand before the first blank.
 fn word_len(text: &[u8]) -> usize
     ensures { result ≡ prefix_len solid text.now }
 {
-    for (i, byte) in text.iter().enumerate() {
-        if is_blank(*byte) {
-            return i;
-        }
-    }
-    text.len()
+    text.iter().take_while(|byte| !is_blank(**byte)).count()
 }

@@ -1,14 +1,13 @@
-use Rattle.std.proofs.Common.{rules}
-use Rattle.std.proofs.lemmas.List.{nil_from_length, reverse-reverse}
+use Rattle.std.proofs.Common.{reverse, ◌∙◌, rules, tests}
+use Rattle.std.proofs.lemmas.Iterator.Adapters.{YieldsList-from_rev_slice}
+use Rattle.std.proofs.lemmas.Iterator.Consumers.{count_from_yields_List}
+use Rattle.std.proofs.lemmas.Iterator.Search.{YieldsList-from_take_while}
+use Rattle.std.proofs.lemmas.List.Folds.{length-prefix_len}
 use Rattle.task.specs.Text.{blank}
-use Rattle.task.proofs.Ends.{past_back_yes, past_back_no}
+use Rattle.task.proofs.Ends.{past_back}
 use Rattle.task.proofs.words.trim_end.Goals as goal
 
-pub loop-last-preserved : goal.loop-last-preserved
-loop-last-preserved c = search (rules, past_back_yes blank)
-
-pub returns-then-not-is_blank : goal.returns-then-not-is_blank
-returns-then-not-is_blank c = search (rules, past_back_no blank, reverse-reverse)
-
-pub returns-in_default : goal.returns-in_default
-returns-in_default c = search (rules, nil_from_length)
+pub returns : goal.returns
+returns c =
+    let text = c.args.text.now in
+    past_back blank text _ (count_from_yields_List c.take_while.result _ c.count-blanks.ensures.ran (YieldsList-from_take_while _ blank (YieldsList-from_rev_slice text cc) c.take_while.ensures.closure c.take_while.ensures.done (λ x b q k. search (rules, tests))) ∙ length-prefix_len blank (reverse text))

@@ -2,7 +2,7 @@ use Rattle.std.proofs.Common.{◌≡◌, ℕ, List, [], ◌∷◌, length, get_o
 use Rattle.std.proofs.lemmas.List.{drop_all, drop_more}
 use Rattle.task.specs.Fields.{read_as}
 use Rattle.task.specs.Lines.{spins}
-use Rattle.task.proofs.directives.spins.Goals as goal
+use Rattle.task.proofs.directives.read_directive.Goals as goal
 
 -- The last nine of eleven numbers.
 nine : (xs : List ℕ) → length xs ≡ 11 → get_or xs 2 0 ∷ get_or xs 3 0 ∷ get_or xs 4 0 ∷ get_or xs 5 0 ∷ get_or xs 6 0 ∷ get_or xs 7 0 ∷ get_or xs 8 0 ∷ get_or xs 9 0 ∷ get_or xs 10 0 ∷ [] ≡ drop 2 xs
@@ -19,8 +19,8 @@ nine xs long =
     let z = drop_all 11 xs (omega arith) in
     cc
 
-pub returns : goal.returns
-returns c =
-    let xs = c.in_ok-fields.fields in
+pub returns-in_ok-rows-in-Spins : goal.returns-in_ok-rows-in-Spins
+returns-in_ok-rows-in-Spins c =
+    let xs = c.in_ok-rows-in-Spins.field-0 in
     let long : length xs ≡ 11 = omega arith in
-    ap (λ ts. Ok (spins (get_or xs 0 0) (get_or xs 1 0) ts)) (nine xs long) ∙ ap (read_as (λ ns. spins (get_or ns 0 0) (get_or ns 1 0) (drop 2 ns))) c.in_ok-fields.ensures
+    rw c.in-Spins.is (ap (λ ts. Ok (spins (get_or xs 0 0) (get_or xs 1 0) ts)) (nine xs long) ∙ ap (read_as (λ ns. spins (get_or ns 0 0) (get_or ns 1 0) (drop 2 ns))) c.in_ok-rows-in-Spins.ensures)
