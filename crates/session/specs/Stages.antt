@@ -96,12 +96,6 @@ line_answer s passed_over = Ok None
 line_answer s (directive q) = cond (allowed q s) (Ok (Some q)) (Err Misplaced)
 line_answer s (unreadable e) = Err (Unreadable e)
 
--- The same before any stage is asked.
-abbrev pub line_directive : Line → Result (Option Request) Trouble
-line_directive passed_over = Ok None
-line_directive (directive q) = Ok (Some q)
-line_directive (unreadable e) = Err (Unreadable e)
-
 abbrev pub last_of : List ℕ → ℕ
 last_of bytes = slice_index bytes (length bytes - 1)
 

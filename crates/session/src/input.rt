@@ -1,6 +1,6 @@
 // The directives of a task, one after another, with the number of the line that is being read.
 ghost use Rattle.std.specs.Prelude.{◌≡◌, true, ◌⊎◌, Ok, Some, IfSome, IfOk, Err, vec_items};
-ghost use Rattle.session.specs.Stages.{allowed, counted, line_answer, line_directive, line_read};
+ghost use Rattle.session.specs.Stages.{allowed, counted, line_answer, line_read};
 ghost use Rattle.std.specs.Option as Options;
 ghost use Rattle.std.specs.Result as Results;
 ghost use Rattle.task.specs.Lines.{line_meaning, request_of};
@@ -9,7 +9,7 @@ use crate::stage::Stage;
 use crate::trouble::Trouble;
 use std::alloc::Global;
 use std::io::{BufRead, BufReader, Read};
-use task::line::{Directive, Reading, read_line};
+use task::line::{Directive, read_line};
 
 #[derive(Drop)]
 pub struct Lines<R: Drop> {
@@ -40,7 +40,7 @@ impl<R: Read + Drop> Lines<R> {
     // The next directive, or none at the end of the text.
     pub fn next_directive(&mut self) -> Result<Option<Directive>, Trouble> {
         let heap = self.heap;
-        self.next_read(|line| directive_read(heap, line))
+        self.next_read(|line| Ok(read_line(heap, line)?))
     }
 
     // The next directive, if the stage allows it, or none at the end of the text.
@@ -103,21 +103,11 @@ fn line_of(mut bytes: Vec<u8>) -> Option<Vec<u8>>
 fn directive_on(heap: Global, stage: Stage, line: &[u8]) -> Result<Option<Directive>, Trouble>
     ensures { (Results.result_map_both (Options.option_map request_of) (λ e. e) result ≡ line_answer stage (line_meaning line.now)) ⊎ (result ≡ Err Trouble.Memory) }
 {
-    let Some(directive) = directive_read(heap, line)? else {
-        return Ok(None);
-    };
-    if !stage.allows(&directive) {
+    let directive = read_line(heap, line)?;
+    if let Some(directive) = &directive
+        && !stage.allows(directive)
+    {
         return Err(Trouble::Misplaced);
     }
-    Ok(Some(directive))
-}
-
-fn directive_read(heap: Global, line: &[u8]) -> Result<Option<Directive>, Trouble>
-    ensures { (Results.result_map_both (Options.option_map request_of) (λ e. e) result ≡ line_directive (line_meaning line.now)) ⊎ (result ≡ Err Trouble.Memory) }
-{
-    match read_line(heap, line)? {
-        Reading::PassedOver => Ok(None),
-        Reading::Directive(directive) => Ok(Some(directive)),
-        Reading::Unreadable(expected) => Err(Trouble::Unreadable(expected)),
-    }
+    Ok(directive)
 }
