@@ -1,9 +1,9 @@
 -- Each answer leaves fewer requests of a directive `draws`.
 use Rattle.std.proofs.Common.{◌≡◌, ℕ, zero, suc, ◌+◌, ◌-◌, ◌*◌, ◌<◌, ◌≤◌, Bool, true, false, Some, None, Option, cond, ◌==◌, refl, subst, sym, arith}
-use Rattle.batch.specs.Requests.{Said, said_apart, said_closed, said_given_up, said_met, said_misplaced, said_opened, said_refused}
+use Rattle.batch.specs.Requests.{Said, said_apart, said_closed, said_given_up, said_met, said_opened, said_refused}
 use Rattle.batch.specs.declared.stage.Request.{Request}
 use Rattle.batch.specs.declared.stage.Request.TheVariants.{Open, Try, Run, Close, GiveUp}
-use Rattle.session.specs.Draws.{after_answer, after_answer_to, draws_from, go_on, next_after}
+use Rattle.session.specs.Draws.{after_answer, after_answer_to, go_on, next_after}
 use Rattle.session.specs.declared.requests.Draws.{Draws}
 use Rattle.session.specs.declared.requests.Next.{Next}
 use Rattle.session.specs.declared.requests.Next.TheVariants.{Ask, DrawDone, Over}
