@@ -1,2 +1,4 @@
 mod Answers
+mod Fewer
+mod Hex
 mod Traces

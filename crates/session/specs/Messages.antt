@@ -2,8 +2,15 @@
 use Rattle.std.specs.Prelude.{ℕ, List, ◌++◌, Some, None, codes, decimal, Option}
 use Rattle.std.specs.Option.{option_map}
 use Rattle.task.specs.Fields.{wording}
+use Rattle.task.specs.declared.line.LineFault.{LineFault}
+use Rattle.task.specs.declared.line.LineFault.TheVariants as fault
 use Rattle.session.specs.declared.trouble.Trouble.{Trouble}
 use Rattle.session.specs.declared.trouble.Trouble.TheVariants.{Unreadable, Misplaced, NoText, Failed, Memory}
+
+-- Why a task stops at a line that cannot be read.
+abbrev pub line_trouble : LineFault → Trouble
+line_trouble (fault.Expected e) = Unreadable e
+line_trouble fault.Memory = Memory
 
 -- The words of a failure are the system's, and left open.
 abbrev pub message : Trouble → Option (List ℕ)

@@ -1,5 +1,6 @@
 -- The lines that a task prints.
-use Rattle.std.specs.Prelude.{◌≡◌, ℕ, zero, suc, ◌*◌, ◌/◌, ◌%◌, ◌^◌, Bool, false, ◌⊎◌, List, [], ◌∷◌, ◌++◌, Some, None, codes, decimal, Option}
+use Rattle.std.specs.Prelude.{◌≡◌, ℕ, zero, suc, ◌*◌, ◌/◌, ◌%◌, ◌^◌, Bool, false, ◌&&◌, ◌⊎◌, List, [], ◌∷◌, ◌++◌, Some, None, codes, decimal, Option}
+use Rattle.batch.specs.Ends.{Two}
 use Rattle.lattice.specs.Faults.{state_refusal}
 use Rattle.lattice.specs.Grid.{Extent, agree}
 use Rattle.lattice.specs.declared.fault.StateFault.TheVariants.{Foreign}
@@ -7,7 +8,7 @@ use Rattle.refusal.specs.Refusals.{Answer, Refusal, given, no_memory, numbered, 
 use Rattle.std.specs.List.{flat_map}
 use Rattle.std.specs.Char.{digit_char}
 use Rattle.task.specs.Answers.{spaced}
-use Rattle.session.specs.declared.trace.Move.{Move}
+use Rattle.session.specs.declared.trace.Step.{Step}
 
 abbrev pub newline : List ℕ
 newline = 10 ∷ []
@@ -35,6 +36,10 @@ TellsOwn rule state x a = (a ≡ provided (agree rule state) (state_refusal Fore
 abbrev pub Tells : {A : Type 0} → (own : Bool) → A → Answer A → Type 0
 Tells own x a = (a ≡ given x) ⊎ ((a ≡ refused no_memory) ⊎ ((own ≡ false) × (a ≡ refused (state_refusal Foreign))))
 
+-- Whether both states are a rule's own.
+abbrev pub owns_both : Extent → Two → Bool
+owns_both rule ends = agree rule ends.low_extent && agree rule ends.high_extent
+
 -- The cells of the two states.
 abbrev pub state_lines : (low high : List ℕ) → List ℕ
 state_lines x y = printed (codes "low") x ++ printed (codes "high") y
@@ -45,11 +50,11 @@ hex_digits zero n = []
 hex_digits (suc k) n = digit_char (n / 2 ^ (4 * k) % 16) ∷ hex_digits k n
 
 -- The place, the word in 16 hex digits, and the site and the level that it chose.
-abbrev pub move_line : Move → List ℕ
+abbrev pub move_line : Step → List ℕ
 move_line m =
     codes "place " ++ decimal m.place ++ codes " word " ++ hex_digits 16 m.word
-    ++ codes " site " ++ decimal m.site ++ codes " level " ++ decimal m.level ++ newline
+    ++ codes " site " ++ decimal m.chosen.site ++ codes " level " ++ decimal m.chosen.level ++ newline
 
 -- A move, and behind it the cells of the state that it left.
-abbrev pub move_lines : Move → List ℕ → List ℕ
+abbrev pub move_lines : Step → List ℕ → List ℕ
 move_lines m cells = move_line m ++ printed (codes "state") cells

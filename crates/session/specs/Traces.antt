@@ -10,7 +10,7 @@ use Rattle.lattice.specs.declared.fault.StateFault.TheVariants.{Foreign}
 use Rattle.refusal.specs.Refusals.{Answer, Refusal, given, no_memory, provided, refused}
 use Rattle.sources.specs.Faults.{no_word_refusal}
 use Rattle.sources.specs.Sources.{Reading, has_place}
-use Rattle.session.specs.declared.trace.Move.{Move}
+use Rattle.session.specs.declared.trace.Step.{Step}
 use Rattle.session.specs.declared.trace.TraceFault.{TraceFault}
 use Rattle.session.specs.declared.trace.TraceFault.TheVariants.{Word, State}
 
@@ -27,12 +27,12 @@ Starts m r back a =
     (a ≡ refused (no_word_refusal (record { place = back; depth = r.depth })))
 
 -- The move at a place: the place, its word, and the site and the level that the word chooses.
-abbrev pub move_at : ℕ → Reading → ℕ → Move
+abbrev pub move_at : ℕ → Reading → ℕ → Step
 move_at cells r place =
-    record { place = place; word = r.word place; site = site cells (r.word place); level = level (r.word place) }
+    record { place = place; word = r.word place; chosen = record { site = site cells (r.word place); level = level (r.word place) } }
 
 -- The next move is the one at the number of places left. None is left to make at 0.
-abbrev pub next_answer : (rule state : Extent) → Reading → ℕ → Answer (Option Move)
+abbrev pub next_answer : (rule state : Extent) → Reading → ℕ → Answer (Option Step)
 next_answer rule state r left =
     cond (left == 0) (given None)
     (provided (has_place r left) (no_word_refusal (record { place = left; depth = r.depth }))
@@ -40,7 +40,7 @@ next_answer rule state r left =
     (given (Some (move_at (cell_count rule) r left)))))
 
 -- What is left after it: one place fewer, and the state moved by the word. Without a move all is as it was.
-abbrev pub after : Answer (Option Move) → Meaning → ℕ → List ℕ → ℕ × List ℕ
+abbrev pub after : Answer (Option Step) → Meaning → ℕ → List ℕ → ℕ × List ℕ
 after (given (Some move)) m left cells = (left - 1, m.step move.word cells)
 after (given None) m left cells = (left, cells)
 after (refused c) m left cells = (left, cells)

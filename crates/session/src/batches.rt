@@ -1,162 +1,170 @@
-// Carries out a task from its stretch on. A draw may not be let go, so each step takes the batch and gives it back, with
-// what went wrong; and at the end its draw is closed or given up.
+// Carries out a task from its stretch on. A draw may not be let go, so each step takes the stage and gives it back, also
+// where something went wrong; and at the end its draw is closed or given up.
+ghost use Rattle.std.specs.Prelude.{◌≡◌, Ok, IsErrAnd, MatchResult};
+
+use crate::answered::{Answered, carry_out};
+use crate::console::Console;
 use crate::draw_lines::{batch_line, end_lines, tally_line};
 use crate::drawable::Drawable;
-use crate::input::Lines;
-use crate::output::{say, say_made, say_moves, say_refused, say_states};
-use crate::progress::Progress;
 use crate::requests::{Draws, requested};
 use crate::stage::Stage as TaskStage;
-use crate::states::{Answered, States};
 use crate::trouble::Trouble;
 use batch::draws::Batch;
+use batch::ends::Ends;
+use batch::setting::Setting;
 use batch::stage::{Reply, Request, Stage};
+use lattice::fault::StateFault;
 use lattice::kind::Kind;
 use sources::source::Source;
-use std::alloc::Global;
 use std::io::{Read, Write};
 use task::line::Directive;
 
 // What a task works on once it has a source.
 #[derive(Drop)]
 pub(crate) struct Work<'a, K: Kind, S: Source> {
-    pub rule: &'a K,
-    pub source: &'a S,
-    pub states: States<K>,
-    pub progress: Progress,
+    pub setting: Setting<'a, K, S>,
+    pub ends: Ends<K>,
 }
 
-// From the stretch on, until the end of the task.
-pub(crate) fn after_stretch<R: Read + Drop, W: Write, K: Drawable, S: Source>(
-    rt: &HostRuntime,
-    lines: &mut Lines<R>,
-    out: &mut W,
-    work: &mut Work<K, S>,
-    stretch: u64,
-) -> Result<(), Trouble> {
-    let batch = match Batch::new(stretch) {
-        Ok(batch) => batch,
-        Err(fault) => return say_refused(rt.alloc(), out, &fault),
-    };
-    let told = say_made(out, batch_line(rt.alloc(), &batch));
-    let stage = Stage::Idle(batch);
-    let (stage, went) = match told {
-        Ok(()) => directives(rt, lines, out, work, stage),
-        Err(trouble) => (stage, Err(trouble)),
-    };
-    let ended = say_made(out, end_lines(rt.alloc(), stage));
-    match went {
-        Ok(()) => ended,
-        Err(trouble) => Err(trouble),
-    }
-}
-
-// Carries out directives until the text ends, or one cannot be carried out.
-fn directives<R: Read + Drop, W: Write, K: Drawable, S: Source>(
-    rt: &HostRuntime,
-    lines: &mut Lines<R>,
-    out: &mut W,
-    work: &mut Work<K, S>,
-    mut stage: Stage,
-) -> (Stage, Result<(), Trouble>) {
-    for _ in 0..u64::MAX {
-        let directive = match lines.next_allowed(TaskStage::of(&stage)) {
-            Ok(Some(directive)) => directive,
-            Ok(None) => return (stage, Ok(())),
-            Err(trouble) => return (stage, Err(trouble)),
-        };
-        let (next, went) = directed(rt, out, work, stage, directive);
-        stage = next;
-        if let Err(trouble) = went {
-            return (stage, Err(trouble));
-        }
-    }
-    (stage, Ok(()))
-}
-
-fn directed<W: Write, K: Drawable, S: Source>(
-    rt: &HostRuntime,
-    out: &mut W,
-    work: &mut Work<K, S>,
+// What went wrong, and the stage in which it did.
+struct Halted {
     stage: Stage,
-    directive: Directive,
-) -> (Stage, Result<(), Trouble>) {
-    let heap = rt.alloc();
-    if let Some(request) = requested(&directive) {
-        let (stage, asked) = ask(heap, out, work, stage, request);
-        return match asked {
-            Ok(_) => (stage, Ok(())),
-            Err(trouble) => (stage, Err(trouble)),
-        };
-    }
-    match directive {
-        Directive::Draws(count) => {
-            let (stage, went) = make_draws(rt, out, work, stage, count);
-            work.progress.end(rt);
-            (stage, went)
-        }
-        Directive::Trace(back) => {
-            let went = say_moves(heap, out, work.rule, work.source, back);
-            (stage, went)
-        }
-        Directive::States => {
-            let went = say_states(heap, out, work.rule, &work.states);
-            (stage, went)
-        }
-        Directive::Tally => {
-            let went = say_made(out, tally_line(heap, stage.tally()));
-            (stage, went)
-        }
-        _ => (stage, Err(Trouble::Misplaced)),
+    trouble: Trouble,
+}
+
+// Halts in the stage if the step went wrong.
+fn halting<T>(stage: Stage, step: Result<T, Trouble>) -> Result<(Stage, T), Halted>
+    ensures { MatchResult step (λ x. result ≡ Ok (stage, x)) (λ e. IsErrAnd result (λ h. (h.stage ≡ stage) × (h.trouble ≡ e))) }
+{
+    match step {
+        Ok(made) => Ok((stage, made)),
+        Err(trouble) => Err(Halted { stage, trouble }),
     }
 }
 
-// Carries out the requests of a directive `draws`.
-fn make_draws<W: Write, K: Drawable, S: Source>(
-    rt: &HostRuntime,
-    out: &mut W,
-    work: &mut Work<K, S>,
-    mut stage: Stage,
-    count: u64,
-) -> (Stage, Result<(), Trouble>) {
-    let mut draws = Draws::new(count);
-    for _ in 0..u64::MAX {
-        let Some(request) = draws.request() else {
-            return (stage, Ok(()));
+impl<R: Read + Drop, W: Write> Console<'_, '_, '_, R, W> {
+    // From the stretch on, until the end of the task.
+    pub(crate) fn after_stretch<K: Drawable, S: Source>(
+        &mut self,
+        work: &mut Work<K, S>,
+        stretch: u64,
+    ) -> Result<(), Trouble> {
+        let Some(batch) = self.granted(Batch::new(stretch))? else {
+            return Ok(());
         };
-        let (next, asked) = ask(rt.alloc(), out, work, stage, request);
-        stage = next;
-        match asked {
-            Ok(reply) => draws = draws.answered(&reply),
-            Err(trouble) => return (stage, Err(trouble)),
+        match self.from_batch(work, batch) {
+            Ok(stage) => self.say_end(stage),
+            Err(halted) => {
+                let Halted { stage, trouble } = halted;
+                let _ = self.say_end(stage);
+                Err(trouble)
+            }
         }
-        work.progress.say(rt, draws);
     }
-    (stage, Ok(()))
-}
 
-// Carries out a request, and prints the answer.
-fn ask<W: Write, K: Drawable, S: Source>(
-    heap: Global,
-    out: &mut W,
-    work: &mut Work<K, S>,
-    stage: Stage,
-    request: Request,
-) -> (Stage, Result<Reply<S::Fault>, Trouble>) {
-    let Answered {
-        stage,
-        reply,
-        lines,
-    } = work
-        .states
-        .carry_out(heap, work.rule, work.source, stage, request);
-    let told = match lines {
-        Ok(Some(lines)) => say(out, lines),
-        Ok(None) => Err(Trouble::Misplaced),
-        Err(fault) => say_refused(heap, out, &fault),
-    };
-    match told {
-        Ok(()) => (stage, Ok(reply)),
-        Err(trouble) => (stage, Err(trouble)),
+    fn say_end(&mut self, stage: Stage) -> Result<(), Trouble> {
+        self.say(end_lines(self.rt.alloc(), stage)?)
+    }
+
+    // Carries out directives until the text ends, or one cannot be carried out.
+    fn from_batch<K: Drawable, S: Source>(
+        &mut self,
+        work: &mut Work<K, S>,
+        batch: Batch,
+    ) -> Result<Stage, Halted> {
+        let said = self.say_made(batch_line(self.rt.alloc(), &batch));
+        let (mut stage, ()) = halting(Stage::Idle(batch), said)?;
+        for _ in 0..u64::MAX {
+            let next = self.lines.next_allowed(TaskStage::from(&stage));
+            let (held, next) = halting(stage, next)?;
+            let Some(directive) = next else {
+                return Ok(held);
+            };
+            stage = self.directed(work, held, directive)?;
+        }
+        Ok(stage)
+    }
+
+    fn directed<K: Drawable, S: Source>(
+        &mut self,
+        work: &mut Work<K, S>,
+        stage: Stage,
+        directive: Directive,
+    ) -> Result<Stage, Halted> {
+        if let Some(request) = requested(&directive) {
+            let (stage, _) = self.ask(work, stage, request)?;
+            return Ok(stage);
+        }
+        if let Directive::Draws(count) = directive {
+            let drawn = self.make_draws(work, stage, count);
+            self.progress.end(self.rt);
+            return drawn;
+        }
+        let said = self.say_asked(work, &stage, directive);
+        let (stage, ()) = halting(stage, said)?;
+        Ok(stage)
+    }
+
+    // Prints what a directive asks for that changes nothing.
+    fn say_asked<K: Drawable, S: Source>(
+        &mut self,
+        work: &Work<K, S>,
+        stage: &Stage,
+        directive: Directive,
+    ) -> Result<(), Trouble> {
+        match directive {
+            Directive::Trace(back) => self.say_moves(&work.setting, back),
+            Directive::States => self.say_states(work.setting.rule, &work.ends),
+            Directive::Tally => self.say_made(tally_line(self.rt.alloc(), stage.tally())),
+            _ => Err(Trouble::Misplaced),
+        }
+    }
+
+    // Carries out the requests of a directive `draws`.
+    fn make_draws<K: Drawable, S: Source>(
+        &mut self,
+        work: &mut Work<K, S>,
+        mut stage: Stage,
+        count: u64,
+    ) -> Result<Stage, Halted> {
+        let mut draws = Draws::new(count);
+        while let Some(request) = draws.request() {
+            let (next, reply) = self.ask(work, stage, request)?;
+            stage = next;
+            draws = draws.answered(&reply);
+            self.progress.say(self.rt, draws);
+        }
+        Ok(stage)
+    }
+
+    // Carries out a request, and prints the answer.
+    fn ask<K: Drawable, S: Source>(
+        &mut self,
+        work: &mut Work<K, S>,
+        stage: Stage,
+        request: Request,
+    ) -> Result<(Stage, Reply<S::Fault>), Halted> {
+        let Answered {
+            stage,
+            reply,
+            lines,
+        } = carry_out(
+            self.rt.alloc(),
+            &work.setting,
+            &mut work.ends,
+            stage,
+            request,
+        );
+        let said = self.say_answer(lines);
+        let (stage, ()) = halting(stage, said)?;
+        Ok((stage, reply))
+    }
+
+    // A request that does not fit has no lines.
+    fn say_answer(&mut self, lines: Result<Option<String>, StateFault>) -> Result<(), Trouble> {
+        match self.granted(lines)? {
+            Some(lines) => self.say(lines.ok_or(Trouble::Misplaced)?),
+            None => Ok(()),
+        }
     }
 }

@@ -1,16 +1,16 @@
 // The lines about draws, newlines included.
-ghost use Rattle.std.specs.Prelude.{◌≡◌, ◌&&◌, [], ◌∷◌, ◌++◌, IfOk, string_bytes, MatchResult};
+ghost use Rattle.std.specs.Prelude.{◌≡◌, [], ◌∷◌, ◌++◌, IfOk, string_bytes, MatchResult};
 ghost use Rattle.batch.specs.Meanings.{batch_machine, drawn_says, tally_says};
 ghost use Rattle.batch.specs.Stages.{said_by, stage_machine};
 ghost use Rattle.lattice.specs.Faults.{state_refusal};
-ghost use Rattle.lattice.specs.Grid.{agree};
 ghost use Rattle.refusal.specs.Refusals.{answer};
-ghost use Rattle.session.specs.Draws.{answer_lines, batch_line, concerned, end_lines, first_line, number_line, state_part, tally_line, window_line};
-ghost use Rattle.session.specs.Printed.{Tells, printed, state_lines};
+ghost use Rattle.session.specs.Draws.{answer_lines, batch_line, concerned, end_lines, first_line, state_part, tally_line};
+ghost use Rattle.session.specs.Printed.{Tells, owns_both, printed, state_lines};
 ghost use Rattle.std.specs.Option.{option_map};
 
 use crate::print::{cells_line, refused_line, whole_line};
 use batch::draws::{Batch, Tally};
+use batch::ends::Ends;
 use batch::stage::{Drawn, Reply, Stage};
 use lattice::fault::StateFault;
 use lattice::kind::Kind;
@@ -38,13 +38,12 @@ pub(crate) fn tally_line(heap: Global, tally: Tally) -> Result<String, AllocErro
 pub(crate) fn states_lines<K: Kind>(
     heap: Global,
     rule: &K,
-    low: &K::State,
-    high: &K::State,
+    ends: &Ends<K>,
 ) -> Result<String, StateFault>
-    ensures { Tells (agree (K.extent rule.now) (K.carried low.now) && agree (K.extent rule.now) (K.carried high.now)) (state_lines (K.cells low.now) (K.cells high.now)) (answer string_bytes state_refusal result) }
+    ensures { Tells (owns_both (K.extent rule.now) ends.now) (state_lines ends.now.low ends.now.high) (answer string_bytes state_refusal result) }
 {
-    let first = cells_line(heap, rule, "low", low)?;
-    let second = cells_line(heap, rule, "high", high)?;
+    let first = cells_line(heap, rule, "low", &ends.low)?;
+    let second = cells_line(heap, rule, "high", &ends.high)?;
     both(first, second.as_str())
 }
 
@@ -52,20 +51,15 @@ pub(crate) fn states_lines<K: Kind>(
 fn both(mut first: String, second: &str) -> Result<String, StateFault>
     ensures { MatchResult result (λ t. string_bytes t ≡ string_bytes first ++ second.now) (λ e. e ≡ StateFault.Memory) }
 {
-    match first.push_str(second) {
-        Ok(()) => Ok(first),
-        Err(_) => Err(StateFault::Memory),
-    }
+    first.push_str(second)?;
+    Ok(first)
 }
 
 // The draw that a request was about: the one that is out after it, or else the one that was out before.
 pub(crate) fn draw_concerned(before: Option<Drawn>, after: Option<Drawn>) -> Option<Drawn>
     ensures { option_map drawn_says result ≡ concerned (option_map drawn_says before) (option_map drawn_says after) }
 {
-    match after {
-        Some(draw) => Some(draw),
-        None => before,
-    }
+    after.or(before)
 }
 
 // The answer to a request, about a draw; none if the request did not fit.
@@ -74,17 +68,14 @@ pub(crate) fn answer_lines<K: Kind, F: Cause + Drop>(
     rule: &K,
     reply: &Reply<F>,
     draw: Option<Drawn>,
-    low: &K::State,
-    high: &K::State,
+    ends: &Ends<K>,
 ) -> Result<Option<String>, StateFault>
-    ensures { Tells (agree (K.extent rule.now) (K.carried low.now) && agree (K.extent rule.now) (K.carried high.now)) (answer_lines (said_by F.refusal reply.now) (option_map drawn_says draw) (K.cells low.now) (K.cells high.now)) (answer (option_map string_bytes) state_refusal result) }
+    ensures { Tells (owns_both (K.extent rule.now) ends.now) (answer_lines (said_by F.refusal reply.now) (option_map drawn_says draw) ends.now.low ends.now.high) (answer (option_map string_bytes) state_refusal result) }
 {
-    let head = match first_line(heap, reply, draw) {
-        Ok(Some(head)) => head,
-        Ok(None) => return Ok(None),
-        Err(_) => return Err(StateFault::Memory),
+    let Some(head) = first_line(heap, reply, draw)? else {
+        return Ok(None);
     };
-    let states = state_part(heap, rule, reply, low, high)?;
+    let states = state_part(heap, rule, reply, ends)?;
     let lines = both(head, states.as_str())?;
     Ok(Some(lines))
 }
@@ -94,43 +85,26 @@ fn first_line<F: Cause + Drop>(
     heap: Global,
     reply: &Reply<F>,
     draw: Option<Drawn>,
-) -> Result<Option<String>, AllocError>
-    ensures { IfOk result (λ o. option_map string_bytes o ≡ first_line (said_by F.refusal reply.now) (option_map drawn_says draw)) }
+) -> Result<Option<String>, StateFault>
+    ensures { MatchResult result (λ o. option_map string_bytes o ≡ first_line (said_by F.refusal reply.now) (option_map drawn_says draw)) (λ e. e ≡ StateFault.Memory) }
 {
-    match reply {
-        Reply::Opened => number_line(heap, "opened", draw),
-        Reply::Met => window_line(heap, "met", draw),
-        Reply::Apart => window_line(heap, "apart", draw),
-        Reply::Closed => number_line(heap, "closed", draw),
-        Reply::GivenUp => number_line(heap, "given up", draw),
-        Reply::Refused(fault) => match refused_line(heap, fault)? {
-            Some(line) => Ok(Some(line)),
-            None => Err(AllocError),
-        },
-        Reply::Misplaced => Ok(None),
-    }
-}
-
-// A text and a draw's number.
-fn number_line(heap: Global, head: &str, draw: Option<Drawn>) -> Result<Option<String>, AllocError>
-    ensures { IfOk result (λ o. option_map string_bytes o ≡ option_map (number_line head.now) (option_map drawn_says draw)) }
-{
-    let Some(draw) = draw else {
-        return Ok(None);
+    let line = match (reply, draw) {
+        (Reply::Opened, Some(draw)) => whole_line(heap, "opened", &[u64::from(draw.number)])?,
+        (Reply::Met, Some(draw)) => whole_line(heap, "met", &tried(draw))?,
+        (Reply::Apart, Some(draw)) => whole_line(heap, "apart", &tried(draw))?,
+        (Reply::Closed, Some(draw)) => whole_line(heap, "closed", &[u64::from(draw.number)])?,
+        (Reply::GivenUp, Some(draw)) => whole_line(heap, "given up", &[u64::from(draw.number)])?,
+        (Reply::Refused(fault), _) => refused_line(heap, fault)?.ok_or(StateFault::Memory)?,
+        _ => return Ok(None),
     };
-    let line = whole_line(heap, head, &[u64::from(draw.number)])?;
     Ok(Some(line))
 }
 
-// A text, a draw's number, and the window tried last.
-fn window_line(heap: Global, head: &str, draw: Option<Drawn>) -> Result<Option<String>, AllocError>
-    ensures { IfOk result (λ o. option_map string_bytes o ≡ option_map (window_line head.now) (option_map drawn_says draw)) }
+// A draw's number, and the window tried last.
+fn tried(draw: Drawn) -> [u64; 2]
+    ensures { result ≡ draw.number ∷ draw.window ∷ [] }
 {
-    let Some(Drawn { number, window }) = draw else {
-        return Ok(None);
-    };
-    let line = whole_line(heap, head, &[u64::from(number), u64::from(window)])?;
-    Ok(Some(line))
+    [u64::from(draw.number), u64::from(draw.window)]
 }
 
 // What an answer says of the states.
@@ -138,14 +112,13 @@ fn state_part<K: Kind, F: Cause + Drop>(
     heap: Global,
     rule: &K,
     reply: &Reply<F>,
-    low: &K::State,
-    high: &K::State,
+    ends: &Ends<K>,
 ) -> Result<String, StateFault>
-    ensures { Tells (agree (K.extent rule.now) (K.carried low.now) && agree (K.extent rule.now) (K.carried high.now)) (state_part (said_by F.refusal reply.now) (K.cells low.now) (K.cells high.now)) (answer string_bytes state_refusal result) }
+    ensures { Tells (owns_both (K.extent rule.now) ends.now) (state_part (said_by F.refusal reply.now) ends.now.low ends.now.high) (answer string_bytes state_refusal result) }
 {
     match reply {
-        Reply::Met => cells_line(heap, rule, "state", low),
-        Reply::Apart => states_lines(heap, rule, low, high),
+        Reply::Met => cells_line(heap, rule, "state", &ends.low),
+        Reply::Apart => states_lines(heap, rule, ends),
         _ => Ok(String::new(heap)),
     }
 }

@@ -1,5 +1,5 @@
 // The directives of a task, one after another, with the number of the line that is being read.
-ghost use Rattle.std.specs.Prelude.{◌≡◌, true, ◌⊎◌, IfSome, IfOk, Err, vec_items};
+ghost use Rattle.std.specs.Prelude.{◌≡◌, true, ◌⊎◌, Ok, Some, IfSome, IfOk, Err, vec_items};
 ghost use Rattle.session.specs.Stages.{allowed, counted, line_answer, line_read};
 ghost use Rattle.std.specs.Option as Options;
 ghost use Rattle.std.specs.Result as Results;
@@ -9,7 +9,7 @@ use crate::stage::Stage;
 use crate::trouble::Trouble;
 use std::alloc::Global;
 use std::io::{BufRead, BufReader, Read};
-use task::line::{Directive, Reading, read_line};
+use task::line::{Directive, read_line};
 
 #[derive(Drop)]
 pub struct Lines<R: Drop> {
@@ -39,28 +39,31 @@ impl<R: Read + Drop> Lines<R> {
 
     // The next directive, or none at the end of the text.
     pub fn next_directive(&mut self) -> Result<Option<Directive>, Trouble> {
-        for _ in 0..u64::MAX {
-            let Some(line) = self.next_line()? else {
-                return Ok(None);
-            };
-            match read_line(self.heap, line.as_slice())? {
-                Reading::PassedOver => {}
-                Reading::Directive(directive) => return Ok(Some(directive)),
-                Reading::Unreadable(expected) => return Err(Trouble::Unreadable(expected)),
-            }
-        }
-        Ok(None)
+        let heap = self.heap;
+        self.next_read(|line| Ok(read_line(heap, line)?))
     }
 
     // The next directive, if the stage allows it, or none at the end of the text.
     pub fn next_allowed(&mut self, stage: Stage) -> Result<Option<Directive>, Trouble>
         ensures { IfOk result (λ o. IfSome o (λ d. allowed (request_of d) stage ≡ true)) }
     {
+        let heap = self.heap;
+        self.next_read(|line| directive_on(heap, stage, line))
+    }
+
+    // What is read of the next line that says something, or none at the end of the text.
+    fn next_read<F: Fn(&[u8]) -> Result<Option<Directive>, Trouble>>(
+        &mut self,
+        read: F,
+    ) -> Result<Option<Directive>, Trouble>
+        requires { F.IsAlwaysCallable read }
+        ensures { IfOk result (λ o. IfSome o (λ d. (line : _) × F.post read line (Ok (Some d)))) }
+    {
         for _ in 0..u64::MAX {
             let Some(line) = self.next_line()? else {
                 return Ok(None);
             };
-            if let Some(directive) = directive_on(self.heap, stage, line.as_slice())? {
+            if let Some(directive) = read(line.as_slice())? {
                 return Ok(Some(directive));
             }
         }
@@ -100,14 +103,11 @@ fn line_of(mut bytes: Vec<u8>) -> Option<Vec<u8>>
 fn directive_on(heap: Global, stage: Stage, line: &[u8]) -> Result<Option<Directive>, Trouble>
     ensures { (Results.result_map_both (Options.option_map request_of) (λ e. e) result ≡ line_answer stage (line_meaning line.now)) ⊎ (result ≡ Err Trouble.Memory) }
 {
-    match read_line(heap, line)? {
-        Reading::PassedOver => Ok(None),
-        Reading::Directive(directive) => {
-            if !stage.allows(&directive) {
-                return Err(Trouble::Misplaced);
-            }
-            Ok(Some(directive))
-        }
-        Reading::Unreadable(expected) => Err(Trouble::Unreadable(expected)),
+    let directive = read_line(heap, line)?;
+    if let Some(directive) = &directive
+        && !stage.allows(directive)
+    {
+        return Err(Trouble::Misplaced);
     }
+    Ok(directive)
 }

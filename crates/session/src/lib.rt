@@ -1,18 +1,18 @@
 // Carries out a task: takes its directives in order, calls the libraries, and writes the answers to any output.
 #![tactic(auto)]
 
+mod answered;
 mod batches;
+mod console;
 mod draw_lines;
 mod drawable;
 pub mod input;
 pub mod moves;
-mod output;
 mod print;
 pub mod progress;
 mod requests;
 pub mod rules;
 pub mod stage;
 pub mod stages;
-mod states;
 pub mod trace;
 pub mod trouble;

@@ -8,6 +8,7 @@ use lattice::fault::StateFault;
 use lattice::kind::Kind;
 use lattice::words::split;
 
+#[derive(Clone, Copy)]
 pub struct Move {
     pub site: u32,
     pub level: u32,

@@ -1,12 +1,12 @@
 // The lines of a task's answers, newline included.
-ghost use Rattle.std.specs.Prelude.{◌≡◌, ◌%◌, ◌<◌, ◌++◌, IfOk, vec_items, string_bytes};
+ghost use Rattle.std.specs.Prelude.{◌≡◌, IfOk, vec_items, string_bytes};
 ghost use Rattle.lattice.specs.Faults.{state_refusal};
 ghost use Rattle.refusal.specs.Refusals.{answer};
-ghost use Rattle.session.specs.Printed.{TellsOwn, hex_digits, move_line, move_lines, printed, refused_line, rule_line, source_line};
+ghost use Rattle.session.specs.Printed.{TellsOwn, move_line, move_lines, printed, refused_line, rule_line, source_line};
 ghost use Rattle.std.specs.Option.{option_map};
-ghost use Rattle.std.specs.Char.{digit_char};
 
-use crate::trace::Move;
+use crate::moves::Move;
+use crate::trace::Step;
 use lattice::fault::StateFault;
 use lattice::kind::Kind;
 use refusal::Cause;
@@ -65,10 +65,7 @@ pub(crate) fn cells_line<K: Kind>(
     ensures { TellsOwn (K.extent rule.now) (K.carried state.now) (printed head.now (K.cells state.now)) (answer string_bytes state_refusal result) }
 {
     let values = cell_values(heap, rule, state)?;
-    match whole_line(heap, head, values.as_slice()) {
-        Ok(line) => Ok(line),
-        Err(_) => Err(StateFault::Memory),
-    }
+    Ok(whole_line(heap, head, values.as_slice())?)
 }
 
 fn cell_values<K: Kind>(heap: Global, rule: &K, state: &K::State) -> Result<Vec<u64>, StateFault>
@@ -80,9 +77,7 @@ fn cell_values<K: Kind>(heap: Global, rule: &K, state: &K::State) -> Result<Vec<
     let mut values = Vec::new(heap);
     for cell in 0..u64::from(rule.cell_count()) {
         let value = rule.cell(state, cell)?;
-        if values.push(u64::from(value)).is_err() {
-            return Err(StateFault::Memory);
-        }
+        values.push(u64::from(value))?;
     }
     Ok(values)
 }
@@ -91,61 +86,25 @@ fn cell_values<K: Kind>(heap: Global, rule: &K, state: &K::State) -> Result<Vec<
 pub(crate) fn move_lines<K: Kind>(
     heap: Global,
     rule: &K,
-    chosen: Move,
+    step: Step,
     state: &K::State,
 ) -> Result<String, StateFault>
-    ensures { TellsOwn (K.extent rule.now) (K.carried state.now) (move_lines chosen (K.cells state.now)) (answer string_bytes state_refusal result) }
+    ensures { TellsOwn (K.extent rule.now) (K.carried state.now) (move_lines step (K.cells state.now)) (answer string_bytes state_refusal result) }
 {
     let after = cells_line(heap, rule, "state", state)?;
-    match with_state(heap, chosen, after.as_str()) {
-        Ok(lines) => Ok(lines),
-        Err(_) => Err(StateFault::Memory),
-    }
-}
-
-// A move, and the line of the state behind it.
-fn with_state(heap: Global, chosen: Move, after: &str) -> Result<String, AllocError>
-    ensures { IfOk result (λ t. string_bytes t ≡ move_line chosen ++ after.now) }
-{
-    let mut lines = move_line(heap, chosen)?;
-    lines.push_str(after)?;
+    let mut lines = move_line(heap, step)?;
+    lines.push_str(after.as_str())?;
     Ok(lines)
 }
 
 // A move, without the state that it leaves.
-fn move_line(heap: Global, chosen: Move) -> Result<String, AllocError>
-    ensures { IfOk result (λ t. string_bytes t ≡ move_line chosen) }
+fn move_line(heap: Global, step: Step) -> Result<String, AllocError>
+    ensures { IfOk result (λ t. string_bytes t ≡ move_line step) }
 {
-    let Move {
+    let Step {
         place,
         word,
-        site,
-        level,
-    } = chosen;
-    let word = hex_word(heap, word)?;
-    format!(in heap; "place {place} word {word} site {site} level {level}\n")
-}
-
-// The 16 hex digits of a word.
-fn hex_word(heap: Global, word: u64) -> Result<String, AllocError>
-    ensures { IfOk result (λ t. string_bytes t ≡ hex_digits 16 word) }
-{
-    let mut text = String::new(heap);
-    for below in (0_u32..16).rev() {
-        text.push(hex_digit(word >> (4 * below)))?;
-    }
-    Ok(text)
-}
-
-// The last hex digit of a number.
-fn hex_digit(number: u64) -> char
-    ensures value { result ≡ digit_char (number % 16) }
-    ensures ascii { result < 128 }
-{
-    let digit = (number % 16) as u8;
-    if digit < 10 {
-        char::from(b'0' + digit)
-    } else {
-        char::from(b'a' - 10 + digit)
-    }
+        chosen: Move { site, level },
+    } = step;
+    format!(in heap; "place {place} word {word:016x} site {site} level {level}\n")
 }

@@ -15,10 +15,9 @@ pub enum Progress {
 
 impl Progress {
     pub(crate) fn say(self, rt: &HostRuntime, draws: Draws) {
-        if let (Progress::Shown, Ok(line)) = (
-            self,
-            progress_line(rt.alloc(), draws.done(), draws.count()),
-        ) {
+        if let Progress::Shown = self
+            && let Ok(line) = progress_line(rt.alloc(), draws.done(), draws.count())
+        {
             let _ = eprint!(rt; "{line}");
         }
     }

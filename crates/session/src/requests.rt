@@ -86,25 +86,18 @@ impl Draws {
     pub fn answered<F: Cause + Drop>(self, reply: &Reply<F>) -> Draws
         ensures { result ≡ after_answer self (said_by F.refusal reply.now) }
     {
-        let Draws {
-            count,
-            left,
-            request,
-        } = self;
-        let Some(request) = request else {
+        let Some(request) = self.request else {
             return self;
         };
         match Next::after(request, reply) {
             Next::Ask(following) => Draws {
-                count,
-                left,
                 request: Some(following),
+                ..self
             },
-            Next::DrawDone => Draws::with_left(count, left.saturating_sub(1)),
+            Next::DrawDone => Draws::with_left(self.count, self.left.saturating_sub(1)),
             Next::Over => Draws {
-                count,
-                left,
                 request: None,
+                ..self
             },
         }
     }

@@ -1,6 +1,7 @@
 // The rule and the source that a directive gives.
 ghost use Rattle.std.specs.Prelude.{◌≡◌};
 ghost use Rattle.refusal.specs.Refusals.{answer};
+ghost use Rattle.session.specs.declared.rules.RuleFault.TheVariants as fault;
 ghost use Rattle.session.specs.Rules.{GivesRule, SpinsAnswers, partitions_answer, rule_of, rule_refusal, sets_answer, source_given, source_of};
 ghost use Rattle.std.specs.Option.{option_map};
 ghost use Rattle.task.specs.Lines.{request_of};
@@ -15,6 +16,7 @@ use spins::rule::Spins;
 use std::alloc::AllocError;
 use task::line::Directive;
 
+#[derive(Drop)]
 pub enum AnyRule {
     Spins(Spins),
     Partitions(Partitions),
@@ -26,6 +28,22 @@ pub enum AnyRule {
 pub enum RuleFault {
     Spins(SpinsFault),
     Shape(ShapeFault),
+}
+
+impl From<SpinsFault> for RuleFault {
+    ghost from_gives = { λ e r. r ≡ fault.Spins e };
+
+    fn from(cause: SpinsFault) -> RuleFault {
+        RuleFault::Spins(cause)
+    }
+}
+
+impl From<ShapeFault> for RuleFault {
+    ghost from_gives = { λ e r. r ≡ fault.Shape e };
+
+    fn from(cause: ShapeFault) -> RuleFault {
+        RuleFault::Shape(cause)
+    }
 }
 
 impl Cause for RuleFault {
@@ -60,28 +78,19 @@ pub fn given_rule(directive: &Directive) -> Option<Result<AnyRule, RuleFault>>
 fn spins_rule(rows: u64, columns: u64, thresholds: [u64; 9]) -> Result<AnyRule, RuleFault>
     ensures { SpinsAnswers rows columns thresholds (answer rule_of rule_refusal result) }
 {
-    match Spins::from_numbers(rows, columns, 1, thresholds) {
-        Ok(rule) => Ok(AnyRule::Spins(rule)),
-        Err(fault) => Err(RuleFault::Spins(fault)),
-    }
+    Ok(AnyRule::Spins(Spins::from_numbers(rows, columns, 1, thresholds)?))
 }
 
 fn partitions_rule(rows: u64, columns: u64, cap: u64) -> Result<AnyRule, RuleFault>
     ensures { answer rule_of rule_refusal result ≡ partitions_answer rows columns «cap» }
 {
-    match Partitions::new(rows, columns, cap) {
-        Ok(rule) => Ok(AnyRule::Partitions(rule)),
-        Err(fault) => Err(RuleFault::Shape(fault)),
-    }
+    Ok(AnyRule::Partitions(Partitions::new(rows, columns, cap)?))
 }
 
 fn sets_rule(rows: u64, columns: u64) -> Result<AnyRule, RuleFault>
     ensures { answer rule_of rule_refusal result ≡ sets_answer rows columns }
 {
-    match IndependentSets::new(rows, columns, 1) {
-        Ok(rule) => Ok(AnyRule::Sets(rule)),
-        Err(fault) => Err(RuleFault::Shape(fault)),
-    }
+    Ok(AnyRule::Sets(IndependentSets::new(rows, columns, 1)?))
 }
 
 // Where the words of a task come from. Bytes have yet to make a recording.

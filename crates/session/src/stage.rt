@@ -23,18 +23,20 @@ pub enum Stage {
     DrawMet,
 }
 
-impl Stage {
-    // The stage of a task that has a batch.
-    pub fn of(batch: &BatchStage) -> Stage
-        ensures { result ≡ stage_with (stage_machine batch.now).out }
-    {
+// The stage of a task that has a batch.
+impl From<&BatchStage> for Stage {
+    ghost from_gives = { λ b s. s ≡ stage_with (stage_machine b.now).out };
+
+    fn from(batch: &BatchStage) -> Stage {
         match batch {
             BatchStage::Idle(_) => Stage::Idle,
             BatchStage::Open(_, _) => Stage::DrawOpen,
             BatchStage::Met(_, _) => Stage::DrawMet,
         }
     }
+}
 
+impl Stage {
     pub fn allows(self, directive: &Directive) -> bool
         ensures { result ≡ allowed (request_of directive.now) self }
     {

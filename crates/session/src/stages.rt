@@ -2,16 +2,17 @@
 // the other modules; here it is read, handed on and written.
 ghost use Rattle.std.specs.Prelude.{◌≡◌, IsUtf8, MatchResult};
 
-use crate::batches::{Work, after_stretch};
+use crate::batches::Work;
+use crate::console::Console;
 use crate::drawable::Drawable;
 use crate::input::Lines;
-use crate::output::{say_made, say_moves, say_refused, say_states};
 use crate::print::{rule_line, source_line};
 use crate::progress::Progress;
 use crate::rules::{AnyRule, SourceGiven, given_rule, given_source};
 use crate::stage::Stage;
-use crate::states::States;
 use crate::trouble::Trouble;
+use batch::ends::Ends;
+use batch::setting::Setting;
 use sources::recording::Recording;
 use sources::source::Source;
 use std::fs;
@@ -34,141 +35,103 @@ pub fn carry_out_showing<R: Read + Drop, W: Write>(
     out: &mut W,
     progress: Progress,
 ) -> Result<(), Trouble> {
-    let Some(directive) = lines.next_allowed(Stage::Start)? else {
-        return Ok(());
+    let mut console = Console {
+        rt,
+        lines,
+        out,
+        progress,
     };
-    let Some(given) = given_rule(&directive) else {
-        return Err(Trouble::Misplaced);
-    };
-    match given {
-        Ok(rule) => with_rule(rt, lines, out, progress, rule),
-        Err(fault) => say_refused(rt.alloc(), out, &fault),
-    }
-}
-
-fn with_rule<R: Read + Drop, W: Write>(
-    rt: &HostRuntime,
-    lines: &mut Lines<R>,
-    out: &mut W,
-    progress: Progress,
-    rule: AnyRule,
-) -> Result<(), Trouble> {
-    match rule {
-        AnyRule::Spins(rule) => after_rule(rt, lines, out, progress, &rule),
-        AnyRule::Partitions(rule) => after_rule(rt, lines, out, progress, &rule),
-        AnyRule::Sets(rule) => after_rule(rt, lines, out, progress, &rule),
-    }
-}
-
-// From the rule on, until the source is given.
-fn after_rule<R: Read + Drop, W: Write, K: Drawable>(
-    rt: &HostRuntime,
-    lines: &mut Lines<R>,
-    out: &mut W,
-    progress: Progress,
-    rule: &K,
-) -> Result<(), Trouble> {
-    let states = match States::new(rt.alloc(), rule) {
-        Ok(states) => states,
-        Err(fault) => return say_refused(rt.alloc(), out, &fault),
-    };
-    say_made(out, rule_line(rt.alloc(), rule))?;
-    for _ in 0..u64::MAX {
-        match lines.next_allowed(Stage::Ruled)? {
-            Some(Directive::States) => say_states(rt.alloc(), out, rule, &states)?,
-            Some(directive) => return with_source(
-                rt, lines, out, progress, rule, states, directive,
-            ),
-            None => return Ok(()),
-        }
-    }
-    Ok(())
-}
-
-fn with_source<R: Read + Drop, W: Write, K: Drawable>(
-    rt: &HostRuntime,
-    lines: &mut Lines<R>,
-    out: &mut W,
-    progress: Progress,
-    rule: &K,
-    states: States<K>,
-    directive: Directive,
-) -> Result<(), Trouble> {
-    match given_source(directive) {
-        Some(SourceGiven::Counter(counter)) => {
-            let source = &counter;
-            let work = Work {
-                rule,
-                source,
-                states,
-                progress,
-            };
-            after_source(rt, lines, out, work)
-        }
-        Some(SourceGiven::Bytes(bytes)) => {
-            with_bytes(rt, lines, out, progress, rule, states, bytes.as_slice())
-        }
-        Some(SourceGiven::File(path)) => {
-            let bytes = fs::read(rt, text_of(path.as_slice())?)?;
-            with_bytes(rt, lines, out, progress, rule, states, bytes.as_slice())
-        }
-        None => Err(Trouble::Misplaced),
-    }
+    console.from_start()
 }
 
 // A path as text.
 fn text_of(path: &[u8]) -> Result<&str, Trouble>
     ensures { MatchResult result (λ text. text.now ≡ path.now) (λ e. (IsUtf8 path.now → ⊥) × (e ≡ Trouble.NoText)) }
 {
-    match std::str::from_utf8(path) {
-        Ok(text) => Ok(text),
-        Err(_) => Err(Trouble::NoText),
-    }
+    std::str::from_utf8(path).map_err(|_| Trouble::NoText)
 }
 
-fn with_bytes<R: Read + Drop, W: Write, K: Drawable>(
-    rt: &HostRuntime,
-    lines: &mut Lines<R>,
-    out: &mut W,
-    progress: Progress,
-    rule: &K,
-    states: States<K>,
-    bytes: &[u8],
-) -> Result<(), Trouble> {
-    match Recording::new(bytes) {
-        Ok(recording) => {
-            let source = &recording;
-            let work = Work {
-                rule,
-                source,
-                states,
-                progress,
-            };
-            after_source(rt, lines, out, work)
+impl<R: Read + Drop, W: Write> Console<'_, '_, '_, R, W> {
+    fn from_start(&mut self) -> Result<(), Trouble> {
+        let Some(directive) = self.lines.next_allowed(Stage::Start)? else {
+            return Ok(());
+        };
+        let given = given_rule(&directive).ok_or(Trouble::Misplaced)?;
+        match self.granted(given)? {
+            Some(AnyRule::Spins(rule)) => self.after_rule(&rule),
+            Some(AnyRule::Partitions(rule)) => self.after_rule(&rule),
+            Some(AnyRule::Sets(rule)) => self.after_rule(&rule),
+            None => Ok(()),
         }
-        Err(fault) => say_refused(rt.alloc(), out, &fault),
     }
-}
 
-// From the source on, until the stretch is given.
-fn after_source<R: Read + Drop, W: Write, K: Drawable, S: Source>(
-    rt: &HostRuntime,
-    lines: &mut Lines<R>,
-    out: &mut W,
-    mut work: Work<K, S>,
-) -> Result<(), Trouble> {
-    let heap = rt.alloc();
-    say_made(out, source_line(heap, work.source))?;
-    for _ in 0..u64::MAX {
-        match lines.next_allowed(Stage::Sourced)? {
-            Some(Directive::Trace(back)) => say_moves(heap, out, work.rule, work.source, back)?,
-            Some(Directive::States) => say_states(heap, out, work.rule, &work.states)?,
-            Some(Directive::Stretch(stretch)) => {
-                return after_stretch(rt, lines, out, &mut work, stretch);
+    // From the rule on, until the source is given.
+    fn after_rule<K: Drawable>(&mut self, rule: &K) -> Result<(), Trouble> {
+        let Some(ends) = self.granted(Ends::new(self.rt.alloc(), rule))? else {
+            return Ok(());
+        };
+        self.say_made(rule_line(self.rt.alloc(), rule))?;
+        for _ in 0..u64::MAX {
+            match self.lines.next_allowed(Stage::Ruled)? {
+                Some(Directive::States) => self.say_states(rule, &ends)?,
+                Some(directive) => return self.with_source(rule, ends, directive),
+                None => return Ok(()),
             }
-            Some(_) => return Err(Trouble::Misplaced),
-            None => return Ok(()),
+        }
+        Ok(())
+    }
+
+    fn with_source<K: Drawable>(
+        &mut self,
+        rule: &K,
+        ends: Ends<K>,
+        directive: Directive,
+    ) -> Result<(), Trouble> {
+        match given_source(directive).ok_or(Trouble::Misplaced)? {
+            SourceGiven::Counter(counter) => {
+                let source = &counter;
+                let setting = Setting { rule, source };
+                self.after_source(Work { setting, ends })
+            }
+            SourceGiven::Bytes(bytes) => self.with_bytes(rule, ends, bytes.as_slice()),
+            SourceGiven::File(path) => {
+                let bytes = fs::read(self.rt, text_of(path.as_slice())?)?;
+                self.with_bytes(rule, ends, bytes.as_slice())
+            }
         }
     }
-    Ok(())
+
+    fn with_bytes<K: Drawable>(
+        &mut self,
+        rule: &K,
+        ends: Ends<K>,
+        bytes: &[u8],
+    ) -> Result<(), Trouble> {
+        let Some(recording) = self.granted(Recording::new(bytes))? else {
+            return Ok(());
+        };
+        let source = &recording;
+        let setting = Setting { rule, source };
+        self.after_source(Work { setting, ends })
+    }
+
+    // From the source on, until the stretch is given.
+    fn after_source<K: Drawable, S: Source>(
+        &mut self,
+        mut work: Work<K, S>,
+    ) -> Result<(), Trouble> {
+        self.say_made(source_line(self.rt.alloc(), work.setting.source))?;
+        for _ in 0..u64::MAX {
+            match self.lines.next_allowed(Stage::Sourced)? {
+                Some(Directive::Trace(back)) => self.say_moves(&work.setting, back)?,
+                Some(Directive::States) => self.say_states(work.setting.rule, &work.ends)?,
+                Some(Directive::Stretch(stretch)) => {
+                    return self.after_stretch(&mut work, stretch);
+                }
+                Some(_) => return Err(Trouble::Misplaced),
+                None => return Ok(()),
+            }
+        }
+        Ok(())
+    }
 }

@@ -4,10 +4,12 @@ ghost use Rattle.coupling.specs.Lead.{lead};
 ghost use Rattle.coupling.specs.Windows.{window_words};
 ghost use Rattle.refusal.specs.Refusals.{answer};
 ghost use Rattle.session.specs.Traces.{Starts, after, end_of, next_answer, trace_refusal};
+ghost use Rattle.session.specs.declared.trace.TraceFault.TheVariants.{State};
 
+use crate::moves::{Move, move_by};
+use batch::setting::Setting;
 use lattice::fault::StateFault;
 use lattice::kind::Kind;
-use lattice::words::split;
 use refusal::Cause;
 use sources::source::Source;
 use std::alloc::{AllocError, Global};
@@ -17,6 +19,14 @@ use std::alloc::{AllocError, Global};
 pub enum TraceFault<F> {
     Word(F),
     State(StateFault),
+}
+
+impl<F> From<StateFault> for TraceFault<F> {
+    ghost from_gives = { λ e r. r ≡ State e };
+
+    fn from(cause: StateFault) -> TraceFault<F> {
+        TraceFault::State(cause)
+    }
 }
 
 impl<F: Cause> Cause for TraceFault<F> {
@@ -30,13 +40,12 @@ impl<F: Cause> Cause for TraceFault<F> {
     }
 }
 
-// One move: its place, the word there, and what the word chose.
+// A move of a trace: its place, the word there, and what the word chose.
 #[derive(Clone, Copy)]
-pub struct Move {
+pub struct Step {
     pub place: u64,
     pub word: u64,
-    pub site: u32,
-    pub level: u32,
+    pub chosen: Move,
 }
 
 #[derive(Drop)]
@@ -50,21 +59,18 @@ impl<K: Kind> Trace<K> {
     // The bottom, before the move at the place `back`.
     pub fn new<S: Source>(
         heap: Global,
-        rule: &K,
-        source: &S,
+        setting: &Setting<K, S>,
         back: u64,
     ) -> Result<Trace<K>, TraceFault<S::Fault>>
-        ensures starts { Starts (K.meaning rule.now) (S.reading source.now) back (answer (λ t. (t.left, K.cells t.state)) (trace_refusal S.Fault.refusal) result) }
-        ensures ends { IfOk result (λ t. end_of (K.meaning rule.now) (S.reading source.now) (t.left, K.cells t.state) ≡ lead (K.meaning rule.now) (window_words (S.reading source.now) 0 0 back) (K.meaning rule.now).bottom) }
-        ensures owned { IfOk result (λ t. K.carried t.state ≡ K.extent rule.now) }
+        ensures starts { Starts (K.meaning setting.now.rule.now) (S.reading setting.now.source.now) back (answer (λ t. (t.left, K.cells t.state)) (trace_refusal S.Fault.refusal) result) }
+        ensures ends { IfOk result (λ t. end_of (K.meaning setting.now.rule.now) (S.reading setting.now.source.now) (t.left, K.cells t.state) ≡ lead (K.meaning setting.now.rule.now) (window_words (S.reading setting.now.source.now) 0 0 back) (K.meaning setting.now.rule.now).bottom) }
+        ensures owned { IfOk result (λ t. K.carried t.state ≡ K.extent setting.now.rule.now) }
     {
-        if let Err(fault) = source.word(back) {
-            return Err(TraceFault::Word(fault));
-        }
-        match rule.new_state(heap) {
-            Ok(state) => Ok(Trace { state, left: back }),
-            Err(fault) => Err(TraceFault::State(fault)),
-        }
+        let _ = setting.source.word(back).map_err(TraceFault::Word)?;
+        Ok(Trace {
+            state: setting.rule.new_state(heap)?,
+            left: back,
+        })
     }
 
     // The state after the moves so far.
@@ -77,32 +83,24 @@ impl<K: Kind> Trace<K> {
     // Makes the next move, and answers it, or none where no place is left.
     pub fn next_move<S: Source>(
         &mut self,
-        rule: &K,
-        source: &S,
-    ) -> Result<Option<Move>, TraceFault<S::Fault>>
-        ensures answers { answer (λ m. m) (trace_refusal S.Fault.refusal) result ≡ next_answer (K.extent rule.now) (K.carried self.old.state) (S.reading source.now) self.old.left }
-        ensures leaves { (self.new.left, K.cells self.new.state) ≡ after (answer (λ m. m) (trace_refusal S.Fault.refusal) result) (K.meaning rule.now) self.old.left (K.cells self.old.state) }
+        setting: &Setting<K, S>,
+    ) -> Result<Option<Step>, TraceFault<S::Fault>>
+        ensures answers { answer (λ m. m) (trace_refusal S.Fault.refusal) result ≡ next_answer (K.extent setting.now.rule.now) (K.carried self.old.state) (S.reading setting.now.source.now) self.old.left }
+        ensures leaves { (self.new.left, K.cells self.new.state) ≡ after (answer (λ m. m) (trace_refusal S.Fault.refusal) result) (K.meaning setting.now.rule.now) self.old.left (K.cells self.old.state) }
         ensures keeps { K.carried self.new.state ≡ K.carried self.old.state }
-        ensures ends { end_of (K.meaning rule.now) (S.reading source.now) (self.new.left, K.cells self.new.state) ≡ end_of (K.meaning rule.now) (S.reading source.now) (self.old.left, K.cells self.old.state) }
+        ensures ends { end_of (K.meaning setting.now.rule.now) (S.reading setting.now.source.now) (self.new.left, K.cells self.new.state) ≡ end_of (K.meaning setting.now.rule.now) (S.reading setting.now.source.now) (self.old.left, K.cells self.old.state) }
     {
         let place = self.left;
         if place == 0 {
             return Ok(None);
         }
-        let word = match source.word(place) {
-            Ok(word) => word,
-            Err(fault) => return Err(TraceFault::Word(fault)),
-        };
-        if let Err(fault) = rule.apply(&mut self.state, word) {
-            return Err(TraceFault::State(fault));
-        }
+        let word = setting.source.word(place).map_err(TraceFault::Word)?;
+        let chosen = move_by(setting.rule, &mut self.state, word)?;
         self.left = place - 1;
-        let (site, level) = split(word, rule.cell_count());
-        Ok(Some(Move {
+        Ok(Some(Step {
             place,
             word,
-            site,
-            level,
+            chosen,
         }))
     }
 }

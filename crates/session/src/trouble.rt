@@ -1,11 +1,11 @@
 // Why a task stops before its end, and how that is said.
 ghost use Rattle.std.specs.Prelude.{◌≡◌};
-ghost use Rattle.session.specs.Messages.{message, stopped_message};
+ghost use Rattle.session.specs.Messages.{line_trouble, message, stopped_message};
 ghost use Rattle.session.specs.declared.trouble.Trouble.TheVariants.{Failed, Memory};
 
 use std::alloc::{AllocError, AllocFailed};
 use std::{fmt, io};
-use task::line::Expected;
+use task::line::{Expected, LineFault};
 
 #[derive(Drop)]
 pub enum Trouble {
@@ -18,6 +18,17 @@ pub enum Trouble {
     // A file, the input or the output failed.
     Failed(io::Error),
     Memory,
+}
+
+impl From<LineFault> for Trouble {
+    ghost from_gives = { λ e r. r ≡ line_trouble e };
+
+    fn from(fault: LineFault) -> Trouble {
+        match fault {
+            LineFault::Expected(expected) => Trouble::Unreadable(expected),
+            LineFault::Memory => Trouble::Memory,
+        }
+    }
 }
 
 impl From<io::Error> for Trouble {

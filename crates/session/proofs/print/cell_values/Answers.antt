@@ -1,4 +1,4 @@
-use Rattle.std.proofs.Common.{◌≡◌, ℕ, ◌+◌, ◌<◌, ◌≤◌, Bool, true, cond, ltb, List, [], ◌∷◌, ◌++◌, length, get_or, take, is_ok, vec_items, sym, ap, ◌∙◌, inl, arith}
+use Rattle.std.proofs.Common.{◌≡◌, ℕ, ◌+◌, ◌<◌, ◌≤◌, Bool, true, ltb, List, [], ◌∷◌, ◌++◌, length, get_or, take, vec_items, sym, ap, ◌∙◌, inl, arith}
 use Rattle.lattice.specs.Calls.{cell_answer}
 use Rattle.lattice.specs.Grid.{Extent, agree, cell_count}
 use Rattle.lattice.specs.Faults.{state_refusal}
@@ -15,10 +15,9 @@ cell_given rule state cells i v e =
     same_given v (get_or cells i 0) (given_provided (ltb i (cell_count rule)) _ v _ (given_provided (agree rule state) _ v _ e))
 
 -- one cell more
-more : (cells before after : List ℕ) (i v w : ℕ) (pushes : Bool) → i < length cells → after ≡ cond pushes (before ++ w ∷ []) before → pushes ≡ true → w ≡ v → v ≡ get_or cells i 0 → before ≡ take i cells → after ≡ take (i + 1) cells
-more cells before after i v w pushes within pushed so wide value told =
+more : (cells before after : List ℕ) (i v w : ℕ) → i < length cells → after ≡ before ++ w ∷ [] → w ≡ v → v ≡ get_or cells i 0 → before ≡ take i cells → after ≡ take (i + 1) cells
+more cells before after i v w within pushed wide value told =
     pushed
-    ∙ ap (λ (t : Bool). cond t (before ++ w ∷ []) before) so
     ∙ ap (λ (u : ℕ). before ++ u ∷ []) (wide ∙ value)
     ∙ ap (λ (vs : List ℕ). vs ++ get_or cells i 0 ∷ []) told
     ∙ sym (take_more cells i 0 within)
@@ -49,4 +48,4 @@ loop-cell-preserved g c =
     let own = owned (g.K.Kind.extent rule) (g.K.Kind.carried state) c.owns.result c.owns.ensures c.if-not-owns.false in
     let long = (g.met.K.Kind.sized rule cells (g.met.K.Kind.lawful rule state (sym (agree_same _ _ own)))).0 in
     let value = cell_given (g.K.Kind.extent rule) (g.K.Kind.carried state) cells c.loop-cell.cell c.in_ok-value.value c.in_ok-value.ensures in
-    more cells (vec_items c.loop-cell.values) (vec_items c.push.new.self) c.loop-cell.cell c.in_ok-value.value c.from.result (is_ok c.push.result) (omega arith) c.push.ensures.items c.if-is_err.ensures.negation c.from.ensures value c.loop-cell.invariant
+    more cells (vec_items c.loop-cell.values) (vec_items c.push.new.self) c.loop-cell.cell c.in_ok-value.value c.from.result (omega arith) c.in_ok-push.ensures.items c.from.ensures value c.loop-cell.invariant

@@ -1,5 +1,7 @@
-use Rattle.std.proofs.Common.{◌≡◌, ℕ, List, ◌++◌, IfOk, Ok, Err, string_bytes, codes, decimal, Result, ap, ◌∙◌, append_assoc}
+use Rattle.std.proofs.Common.{◌≡◌, ℕ, ◌-◌, ◌^◌, false, List, [], ◌++◌, IfOk, Ok, Err, codes, decimal, Result, ap, ◌∙◌, append_assoc, arith}
+use Rattle.std.specs.Fmt.{digits, format_spec, padded_integral}
 use Rattle.session.specs.Printed.{newline}
+use Rattle.session.proofs.Hex.{hex_word}
 use Rattle.session.proofs.print.move_line.Goals as goal
 
 -- what is made is so in another way too
@@ -13,9 +15,11 @@ regrouped a b c d e f g h i = simp append_assoc
 
 pub returns : goal.returns
 returns c =
-    let m = c.args.chosen in
-    let word = string_bytes c.in_ok-word.word in
+    let m = c.args.step in
+    let digits_made = c.in_radix.ensures in
+    let options = c.laid_out.ensures in
+    let word = padded_integral (format_spec 32 0 4 16 (2 ^ 64 - 1)) false [] (digits 16 false m.word) in
     made_too c.format.result _ _
-    (λ t e. e ∙ regrouped (codes "place ") (decimal m.place) (codes " word ") word (codes " site ") (decimal m.site) (codes " level ") (decimal m.level) newline
-    ∙ ap (λ (w : List ℕ). codes "place " ++ decimal m.place ++ codes " word " ++ w ++ codes " site " ++ decimal m.site ++ codes " level " ++ decimal m.level ++ newline) c.in_ok-word.ensures)
-    c.format.ensures.ok
+    (λ t e. e ∙ regrouped (codes "place ") (decimal m.place) (codes " word ") word (codes " site ") (decimal m.chosen.site) (codes " level ") (decimal m.chosen.level) newline
+    ∙ ap (λ (w : List ℕ). codes "place " ++ decimal m.place ++ codes " word " ++ w ++ codes " site " ++ decimal m.chosen.site ++ codes " level " ++ decimal m.chosen.level ++ newline) (hex_word m.word (omega arith)))
+    (simp (digits_made, options) at c.format.ensures.ok)

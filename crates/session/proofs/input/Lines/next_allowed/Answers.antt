@@ -1,4 +1,4 @@
-use Rattle.std.proofs.Common.{◌≡◌, ℕ, Bool, true, false, cond, ◌⊎◌, Some, Ok, Err, Option, sym, refl, ap, ◌∙◌, subst, inl, inr, arith}
+use Rattle.std.proofs.Common.{◌≡◌, ℕ, Bool, true, false, cond, ◌⊎◌, Some, None, Ok, Err, IfOk, IfSome, Option, Result, sym, refl, ap, ◌∙◌, subst, inl, inr, arith, rules}
 use Rattle.task.specs.Lines.{Line, Request, directive, line_meaning, passed_over, request_of, unreadable}
 use Rattle.task.specs.declared.line.Directive.{Directive}
 use Rattle.std.specs.Option.{option_map}
@@ -22,5 +22,14 @@ taken_allowed : (s : Stage) (l : Line) (o : Option Directive) (d : Directive) �
 taken_allowed s l o d is (inl e) = only_allowed s l (request_of d) (ap (λ (p : Option Directive). Ok (option_map request_of p)) (sym is) ∙ e)
 taken_allowed s l o d is (inr e) = let z : ◌≡◌ {A = ℕ} 0 1 = cc in absurd (omega arith)
 
-pub returns-in-Some-2 : goal.returns-in-Some-2
-returns-in-Some-2 g c = taken_allowed c.args.stage (line_meaning c.as_slice.result.now) c.in_ok-directive.field-0 c.in-Some-2.directive c.in-Some-2.is c.in_ok-directive.ensures
+weaker : {E : Type 0} (r : Result (Option Directive) E) (P Q : Directive → Type 0) → ((d : Directive) → P d → Q d) → IfOk r (λ o. IfSome o P) → IfOk r (λ o. IfSome o Q)
+weaker (Ok (Some d)) P Q f p = f d p
+weaker (Ok None) P Q f p = tt
+weaker (Err e) P Q f p = tt
+
+pub returns : goal.returns
+returns g c = weaker c.next_read.result _ _
+    (λ d p.
+    let read : (Ok (option_map request_of (Some d)) ≡ line_answer c.args.stage (line_meaning p.0.now)) ⊎ (Ok (Some d) ≡ Err Memory) = search rules in
+    taken_allowed c.args.stage (line_meaning p.0.now) (Some d) d refl read)
+    c.next_read.ensures

@@ -1,0 +1,85 @@
+// Where the directives of a task come from, and where its answers go.
+ghost use Rattle.std.specs.Prelude.{◌≡◌, Ok, IfOk, IfSome};
+
+use crate::draw_lines::states_lines;
+use crate::drawable::Drawable;
+use crate::input::Lines;
+use crate::print::{move_lines, refused_line};
+use crate::progress::Progress;
+use crate::trace::Trace;
+use crate::trouble::Trouble;
+use batch::ends::Ends;
+use batch::setting::Setting;
+use refusal::Cause;
+use sources::source::Source;
+use std::alloc::AllocError;
+use std::io::{Read, Write};
+
+#[derive(Drop)]
+pub(crate) struct Console<'r, 'l, 'o, R: Drop, W> {
+    pub rt: &'r HostRuntime,
+    pub lines: &'l mut Lines<R>,
+    pub out: &'o mut W,
+    pub progress: Progress,
+}
+
+impl<R: Read + Drop, W: Write> Console<'_, '_, '_, R, W> {
+    pub fn say(&mut self, text: String) -> Result<(), Trouble> {
+        Ok(self.out.write_all(text.as_bytes())?)
+    }
+
+    // What was asked for, or none where it was refused, and that has been said. Want of memory, which has no line, ends
+    // the task.
+    pub fn granted<T: Drop, C: Cause + Drop>(
+        &mut self,
+        asked: Result<T, C>,
+    ) -> Result<Option<T>, Trouble>
+        ensures { IfOk result (λ o. IfSome o (λ x. asked ≡ Ok x)) }
+    {
+        match asked {
+            Ok(value) => Ok(Some(value)),
+            Err(cause) => {
+                let line = refused_line(self.rt.alloc(), &cause)?.ok_or(Trouble::Memory)?;
+                self.say(line)?;
+                Ok(None)
+            }
+        }
+    }
+
+    // Prints the text, if there was memory for it.
+    pub fn say_made(&mut self, text: Result<String, AllocError>) -> Result<(), Trouble> {
+        self.say(text?)
+    }
+
+    // Prints the lines, or the refusal in their place.
+    pub fn say_granted<C: Cause + Drop>(
+        &mut self,
+        lines: Result<String, C>,
+    ) -> Result<(), Trouble> {
+        if let Some(lines) = self.granted(lines)? {
+            self.say(lines)?;
+        }
+        Ok(())
+    }
+
+    // Prints every move of a trace, and the state after it.
+    pub fn say_moves<K: Drawable, S: Source>(
+        &mut self,
+        setting: &Setting<K, S>,
+        back: u64,
+    ) -> Result<(), Trouble> {
+        let heap = self.rt.alloc();
+        let begun = Trace::new(heap, setting, back);
+        let Some(mut trace) = self.granted(begun)? else {
+            return Ok(());
+        };
+        while let Some(Some(step)) = self.granted(trace.next_move(setting))? {
+            self.say_granted(move_lines(heap, setting.rule, step, trace.state()))?;
+        }
+        Ok(())
+    }
+
+    pub fn say_states<K: Drawable>(&mut self, rule: &K, ends: &Ends<K>) -> Result<(), Trouble> {
+        self.say_granted(states_lines(self.rt.alloc(), rule, ends))
+    }
+}
