@@ -1,6 +1,6 @@
 // What draws are run with, and a draw from its opening to its end, with a printed line for each call.
 use crate::ends::end;
-use anyhow::anyhow;
+use anyhow::Context;
 use batch::draws::Batch;
 use batch::outcome::Outcome;
 use batch::stage::Drawn;
@@ -11,6 +11,7 @@ use refusal::Cause;
 use sources::fault::NoWord;
 use sources::recording::Recording;
 use std::alloc::{AllocError, Global};
+use std::fmt;
 use task::answers::numbers_line;
 
 // The rule of one height, recorded words, and the states of the two ends.
@@ -26,6 +27,15 @@ pub struct Bench<'a> {
 pub enum Call {
     Try(u64),
     Run,
+}
+
+impl fmt::Display for Call {
+    fn fmt<W: fmt::Write>(&self, f: &mut fmt::Formatter<W>) -> fmt::Result {
+        match self {
+            Call::Try(window) => write!(f, "window {window}"),
+            Call::Run => write!(f, "run"),
+        }
+    }
 }
 
 impl<'a> Bench<'a> {
@@ -82,10 +92,6 @@ impl<'a> Bench<'a> {
     }
 
     fn say(&self, rt: &HostRuntime, call: Call, outcome: &Outcome<NoWord>) -> anyhow::Result<()> {
-        match call {
-            Call::Try(window) => print!(rt; "window {window}: ")?,
-            Call::Run => print!(rt; "run: ")?,
-        }
         let heap = rt.alloc();
         let (answer, drawn) = match outcome {
             Outcome::Met(draw) => (String::from_str(heap, "met")?, draw.drawn()),
@@ -95,7 +101,7 @@ impl<'a> Bench<'a> {
         let Drawn { number, window } = drawn;
         let low = height_text(heap, &self.rule, &self.low)?;
         let high = height_text(heap, &self.rule, &self.high)?;
-        println!(rt; "{answer}, draw {number} window {window}, heights {low} {high}")?;
+        println!(rt; "{call}: {answer}, draw {number} window {window}, heights {low} {high}")?;
         Ok(())
     }
 }
@@ -119,8 +125,5 @@ pub fn refusal_text<C: Cause>(heap: Global, cause: &C) -> Result<String, AllocEr
 
 // What a call gives that is not to be refused.
 pub fn accepted<T, E: Drop>(answer: Result<T, E>) -> anyhow::Result<T> {
-    match answer {
-        Ok(value) => Ok(value),
-        Err(_) => Err(anyhow!("a call was refused")),
-    }
+    answer.ok().context("a call was refused")
 }

@@ -4,7 +4,7 @@ ghost use Rattle.batch.specs.Machine.{limit, one_closed, one_given_up, one_opene
 ghost use Rattle.batch.specs.Meanings.{batch_machine, met_machine, open_machine};
 ghost use Rattle.batch.specs.declared.outcome.Outcome.TheVariants.{Met, Apart, Refused};
 
-use batch::draws::{Batch, MetDraw, OpenDraw, Token};
+use batch::draws::{Batch, OpenDraw, Token};
 use batch::outcome::Outcome;
 use sources::fault::NoWord;
 
@@ -13,7 +13,7 @@ pub fn end(outcome: Outcome<NoWord>, token: Token) -> Batch
     ensures { elim outcome [ Met d ↦ batch_machine result ≡ one_closed (met_machine d) | Apart d ↦ batch_machine result ≡ one_given_up (open_machine d) | Refused d f ↦ batch_machine result ≡ one_given_up (open_machine d) ] }
 {
     match outcome {
-        Outcome::Met(draw) => MetDraw::close(draw, token),
+        Outcome::Met(draw) => draw.close(token),
         Outcome::Apart(draw) => end_apart(draw, token),
         Outcome::Refused(draw, _) => end_apart(draw, token),
     }
@@ -23,7 +23,7 @@ pub fn end(outcome: Outcome<NoWord>, token: Token) -> Batch
 pub fn end_apart(draw: OpenDraw, token: Token) -> Batch
     ensures { batch_machine result ≡ one_given_up (open_machine draw) }
 {
-    OpenDraw::give_up(draw, token)
+    draw.give_up(token)
 }
 
 // Opens a draw and gives it up, or leaves the batch as it is once there are no more.
@@ -31,15 +31,10 @@ pub fn give_up_next(batch: Batch) -> Batch
     ensures { batch_machine result ≡ (if nat_lt (batch_machine batch).opened limit then one_given_up (one_opened (batch_machine batch)) else batch_machine batch) }
 {
     match batch.open() {
-        Ok(opened) => {
-            let (draw, token) = opened;
-            end_apart(draw, token)
-        }
+        Ok((draw, token)) => end_apart(draw, token),
         Err(full) => full.batch,
     }
 }
 
 // An idle batch may be let go. Once it is opened, the draw and the token have to be brought to an end.
-pub fn let_go(batch: Batch) {
-    let _idle = batch;
-}
+pub fn let_go(_idle: Batch) {}

@@ -84,8 +84,7 @@ fn all_draws(rt: &HostRuntime) -> anyhow::Result<()> {
         batch = give_up_next(batch);
     }
     match batch.open() {
-        Ok(opened) => {
-            let (draw, token) = opened;
+        Ok((draw, token)) => {
             let_go(end_apart(draw, token));
             Err(anyhow!("one draw too many"))
         }
