@@ -4,10 +4,11 @@ use Rattle.std.proofs.lemmas.Bool.{and_from, and_parts, both_ways, cases_Bool, l
 use Rattle.coupling.specs.Lead.{Ends, apart_at, met_in}
 use Rattle.lattice.specs.Grid.{Extent}
 use Rattle.refusal.specs.Refusals.{given}
+use Rattle.batch.specs.Ends.{SameExtents, Two, two}
 use Rattle.batch.specs.Machine.{Draw, Machine, Out, met_draw, none, open_draw, with_out}
-use Rattle.batch.specs.Meanings.{open_machine, draw_and_states, with_draw}
+use Rattle.batch.specs.Meanings.{open_machine, open_one, with_draw}
 use Rattle.batch.specs.Runs.{AnswersApart, ComesTo, RunReports, doubled_report}
-use Rattle.batch.specs.Tries.{Report, Setting, DrawAndStates, ends_report, tried_to, try_report}
+use Rattle.batch.specs.Tries.{Report, Setting, DrawAndStates, ends_report, tried_to, try_report, with_two}
 use Rattle.batch.specs.declared.draws.Batch.{Batch}
 use Rattle.batch.specs.declared.draws.OpenDraw.{OpenDraw}
 use Rattle.batch.proofs.Accepted.{accepted_report, answered}
@@ -29,13 +30,13 @@ apart_draw s m st T apart =
     let report = accepted_report s m st T (answered s m st T false apart) in
     ap (λ (r : Report). r.machine.out) report ∙ apart_out m st.draw T _ (sym (ap (λ (r : Report). r.answer) report) ∙ apart)
 
-same_draw_and_states : (d d' : Draw) (e e' f f' : Extent) (x x' y y' : List ℕ) → d ≡ d' → e ≡ e' → f ≡ f' → x ≡ x' → y ≡ y' → ◌≡◌ {A = DrawAndStates} (record { draw = d; low_extent = e; high_extent = f; low = x; high = y }) (record { draw = d'; low_extent = e'; high_extent = f'; low = x'; high = y' })
-same_draw_and_states d d' e e' f f' x x' y y' hd he hf hx hy =
-    ap (λ (v : Draw). record { draw = v; low_extent = e; high_extent = f; low = x; high = y }) hd
-    ∙ ap (λ (v : Extent). record { draw = d'; low_extent = v; high_extent = f; low = x; high = y }) he
-    ∙ ap (λ (v : Extent). record { draw = d'; low_extent = e'; high_extent = v; low = x; high = y }) hf
-    ∙ ap (λ (v : List ℕ). record { draw = d'; low_extent = e'; high_extent = f'; low = v; high = y }) hx
-    ∙ ap (λ (v : List ℕ). record { draw = d'; low_extent = e'; high_extent = f'; low = x'; high = v }) hy
+same_draw_and_states : (d d' : Draw) (t t' : Two) → d ≡ d' → t.low_extent ≡ t'.low_extent → t.high_extent ≡ t'.high_extent → t.low ≡ t'.low → t.high ≡ t'.high → with_two d t ≡ with_two d' t'
+same_draw_and_states d d' t t' hd he hf hx hy =
+    ap (λ (v : Draw). with_two v t) hd
+    ∙ ap (λ (v : Extent). with_two d' (two v t.high_extent t.low t.high)) he
+    ∙ ap (λ (v : Extent). with_two d' (two t'.low_extent v t.low t.high)) hf
+    ∙ ap (λ (v : List ℕ). with_two d' (two t'.low_extent t'.high_extent v t.high)) hx
+    ∙ ap (λ (v : List ℕ). with_two d' (two t'.low_extent t'.high_extent t'.low v)) hy
 
 -- the same batch, so the same report
 doubled_same : (s : Setting) (d now : OpenDraw) (st : DrawAndStates) (T W : ℕ) → now.batch ≡ d.batch → T ≡ W → doubled_report s (open_machine now) st T ≡ doubled_report s (open_machine d) st W
@@ -43,32 +44,32 @@ doubled_same s d now st T W same window =
     ap (λ (b : Batch). doubled_report s (with_draw b none) st T) same
     ∙ ap (λ (n : ℕ). doubled_report s (open_machine d) st n) window
 
-module _ (s : Setting) (d now : OpenDraw) (e f : Extent) (x y : List ℕ) (en fn : Extent) (xn yn : List ℕ) where
+module _ (s : Setting) (d now : OpenDraw) (t tn : Two) where
   abbrev first : DrawAndStates
-  first = draw_and_states d e f x y
+  first = with_two (open_one d) t
 
   abbrev here : DrawAndStates
-  here = draw_and_states now en fn xn yn
+  here = with_two (open_one now) tn
 
   abbrev before : Machine
   before = open_machine d
 
-  pub again : (after : OpenDraw) (ea fa : Extent) (xa ya : List ℕ) (k T : ℕ) → T ≡ 2 ^ k → now.batch ≡ d.batch → ea ≡ en → fa ≡ fn → ComesTo s before first (2 ^ k) here → ◌≡◌ {A = Report} (record { answer = given false; machine = open_machine after; low = xa; high = ya }) (doubled_report s (open_machine now) here T) → ComesTo s before first (2 ^ (k + 1)) (draw_and_states after ea fa xa ya)
-  again after ea fa xa ya k T window same he hf comes reports =
+  pub again : (after : OpenDraw) (ta : Two) (k T : ℕ) → T ≡ 2 ^ k → now.batch ≡ d.batch → SameExtents tn ta → ComesTo s before first (2 ^ k) here → ◌≡◌ {A = Report} (record { answer = given false; machine = open_machine after; low = ta.low; high = ta.high }) (doubled_report s (open_machine now) here T) → ComesTo s before first (2 ^ (k + 1)) (with_two (open_one after) ta)
+  again after ta k T window same keeps comes reports =
       let doubled = reports ∙ doubled_same s d now here T (2 ^ k) same window in
       ⊎_elim
       (λ (t : (ltb now.tried (2 ^ k) && ltb (2 ^ k) d.batch.stretch) ≡ true).
-      let tried : ◌≡◌ {A = Report} (record { answer = given false; machine = open_machine after; low = xa; high = ya }) (try_report s before here (2 ^ k)) = rw t at doubled in
+      let tried : ◌≡◌ {A = Report} (record { answer = given false; machine = open_machine after; low = ta.low; high = ta.high }) (try_report s before here (2 ^ k)) = rw t at doubled in
       let parts = and_parts _ _ t in
       let apart = sym (ap (λ (r : Report). r.answer) tried) in
       let draw = ap out_draw (ap (λ (r : Report). r.machine.out) tried ∙ apart_draw s before here (2 ^ k) apart) in
-      goes_on s before first k here (draw_and_states after ea fa xa ya) comes (ltb-true _ _ parts.0) (ltb-true _ _ parts.1) apart
-      (same_draw_and_states _ _ _ _ _ _ _ _ _ _ draw he hf (ap (λ (r : Report). r.low) tried) (ap (λ (r : Report). r.high) tried)))
+      goes_on s before first k here (with_two (open_one after) ta) comes (ltb-true _ _ parts.0) (ltb-true _ _ parts.1) apart
+      (same_draw_and_states _ _ _ _ draw keeps.0 keeps.1 (ap (λ (r : Report). r.low) tried) (ap (λ (r : Report). r.high) tried)))
       (λ (t : (ltb now.tried (2 ^ k) && ltb (2 ^ k) d.batch.stretch) ≡ false).
-      let passed : ◌≡◌ {A = Report} (record { answer = given false; machine = open_machine after; low = xa; high = ya }) (record { answer = given false; machine = with_out before (open_draw here.draw); low = xn; high = yn }) = rw t at doubled in
+      let passed : ◌≡◌ {A = Report} (record { answer = given false; machine = open_machine after; low = ta.low; high = ta.high }) (record { answer = given false; machine = with_out before (open_draw here.draw); low = tn.low; high = tn.high }) = rw t at doubled in
       let draw = ap (λ (r : Report). out_draw r.machine.out) passed in
       let on = passes s before first k here comes (λ larger below. both_ways _ t (and_from _ _ (lt-ltb _ _ larger) (lt-ltb _ _ below))) in
-      subst (ComesTo s before first (2 ^ (k + 1))) (sym (same_draw_and_states _ _ _ _ _ _ _ _ _ _ draw he hf (ap (λ (r : Report). r.low) passed) (ap (λ (r : Report). r.high) passed))) on)
+      subst (ComesTo s before first (2 ^ (k + 1))) (sym (same_draw_and_states _ _ _ _ draw keeps.0 keeps.1 (ap (λ (r : Report). r.low) passed) (ap (λ (r : Report). r.high) passed))) on)
       (cases_Bool (ltb now.tried (2 ^ k) && ltb (2 ^ k) d.batch.stretch))
 
   pub early : (k T : ℕ) (report : Report) → T ≡ 2 ^ k → now.batch ≡ d.batch → ComesTo s before first (2 ^ k) here → report ≡ doubled_report s (open_machine now) here T → (report.answer ≡ given false → ⊥) → RunReports s before first report

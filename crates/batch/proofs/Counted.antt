@@ -4,9 +4,10 @@ use Rattle.std.proofs.lemmas.Bool.{and_parts, leb-true}
 use Rattle.refusal.specs.Refusals.{Refusal, given, provided}
 use Rattle.batch.specs.Histories.{Event, Has, History, event}
 use Rattle.batch.specs.Machine.{Machine, Out, drawn, met_draw, new_machine, none, open_draw}
-use Rattle.batch.specs.Requests.{CarriesByDraw, Said, Response, Two, said_apart, said_misplaced, with_two}
+use Rattle.batch.specs.Ends.{Two}
+use Rattle.batch.specs.Requests.{CarriesByDraw, Said, Response, said_apart, said_misplaced}
 use Rattle.batch.specs.Tallies.{Tallies, TallyCountsTheCalls, TriesOfRun, Unrolls, UnrollsOne, how_many, is_closed, is_given_up, is_opened}
-use Rattle.batch.specs.Tries.{Setting}
+use Rattle.batch.specs.Tries.{Setting, with_two}
 use Rattle.batch.specs.declared.stage.Request.{Request}
 use Rattle.batch.specs.declared.stage.Request.TheVariants.{Open, Try, Run, Close, GiveUp}
 use Rattle.batch.proofs.Responses.{carried_stretch}

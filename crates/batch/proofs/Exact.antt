@@ -7,8 +7,10 @@ use Rattle.lattice.specs.Kind.{Bounded, Closed, Monotone, Ordered}
 use Rattle.sources.specs.Sources.{Sound}
 use Rattle.batch.specs.Histories.{Has}
 use Rattle.batch.specs.Machine.{Draw, Machine, Out, met_draw, none, open_draw}
+use Rattle.batch.specs.Promises.{HoldsInEveryHistory}
 use Rattle.batch.specs.Samples.{AgreeingHistoriesSampleAlike, AnswersAreExact, with_source}
 use Rattle.batch.specs.Tries.{Setting}
+use Rattle.batch.proofs.Counted.{counted}
 use Rattle.batch.proofs.Responses.{Exact, carried_exact, carried_stretch}
 
 pub exact : (s : Setting) (ordered : Ordered s.rule) (bounded : Bounded s.rule) (closed : Closed s.rule) (monotone : Monotone s.rule) (sound : Sound s.source) → AnswersAreExact s
@@ -38,3 +40,7 @@ alike s ordered bounded closed monotone sound q also agree es fs m n h k same e 
     let fill = subst (λ (v : ℕ). CanFill q m.stretch v y.draw.tried) (sym numbers) (subst (λ (v : ℕ). CanFill q v y.draw.number y.draw.tried) (sym same) y.fills) in
     let words = subst (λ (v : ℕ). outcome s.rule (window_words q m.stretch v y.draw.tried) ≡ met_in f.response.low) (sym numbers) (subst (λ (v : ℕ). outcome s.rule (window_words q v y.draw.number y.draw.tried) ≡ met_in f.response.low) (sym same) y.by_words) in
     agreeing_sources s.rule ordered bounded closed monotone s.source q sound also agree m.stretch x.draw.number x.draw.tried y.draw.tried x.fills fill e.response.low f.response.low x.by_words words
+
+pub holds : (s : Setting) (ordered : Ordered s.rule) (bounded : Bounded s.rule) (closed : Closed s.rule) (monotone : Monotone s.rule) (sound : Sound s.source) → HoldsInEveryHistory s
+holds s ordered bounded closed monotone sound =
+    record { exact = exact s ordered bounded closed monotone sound; alike = alike s ordered bounded closed monotone sound; tally = counted s }

@@ -14,12 +14,13 @@ use Rattle.refusal.specs.Refusals.{Answer, Refusal, given, provided, refused}
 use Rattle.sources.specs.Sources.{Sound}
 use Rattle.batch.specs.Faults.{tried_refusal}
 use Rattle.batch.specs.Machine.{Draw, Machine, Out, left_after, met_draw, none, one_opened, open_answer, open_draw}
-use Rattle.batch.specs.Requests.{CarriesByDraw, Said, Response, Two, states_kept, reported, said_apart, said_met, said_open, with_two}
+use Rattle.batch.specs.Ends.{Two}
+use Rattle.batch.specs.Requests.{CarriesByDraw, Said, Response, states_kept, reported, said_apart, said_met, said_open}
 use Rattle.batch.specs.Runs.{EndsAt, RunReports}
 use Rattle.batch.specs.Samples.{ApartExactlyIfTwoDiffer, Parted, Sampled, words_of}
 use Rattle.batch.specs.Tallies.{window_of}
 use Rattle.batch.specs.Histories.{Event, event, is_tried}
-use Rattle.batch.specs.Tries.{Report, Setting, DrawAndStates, ends_report, owned, refused_report, report_of, tried_to, try_report, words_of_try}
+use Rattle.batch.specs.Tries.{Report, Setting, DrawAndStates, ends_report, owned, refused_report, report_of, tried_to, try_report, words_of_try, with_two}
 use Rattle.batch.specs.declared.stage.Request.{Request}
 use Rattle.batch.specs.declared.stage.Request.TheVariants.{Open, Try, Run, Close, GiveUp}
 use Rattle.batch.proofs.Accepted.{accepted_report, accepted_when, which}

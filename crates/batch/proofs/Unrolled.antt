@@ -10,7 +10,7 @@ use Rattle.refusal.specs.Refusals.{given}
 use Rattle.batch.specs.Faults.{tried_refusal}
 use Rattle.batch.specs.Histories.{Event, Has, History, event}
 use Rattle.batch.specs.Machine.{Draw, Machine, open_draw, with_out}
-use Rattle.batch.specs.Requests.{Two, reported, said_try, two}
+use Rattle.batch.specs.Requests.{reported, said_try}
 use Rattle.batch.specs.Runs.{AnswersApart, ComesTo, Doubled, EndsAt, LeftBefore, RunReports, left_apart}
 use Rattle.batch.specs.Tallies.{DoubledTries, Tallies, TriesOfRun}
 use Rattle.batch.specs.Tries.{Report, Setting, DrawAndStates, ends_report, owned, refused_report, tried_to, try_report}
@@ -36,9 +36,6 @@ apart_machine : (s : Setting) (m : Machine) (st : DrawAndStates) (T : ℕ) → A
 apart_machine s m st T apart =
     let report = accepted_report s m st T (answered s m st T false apart) in
     ap (λ (r : Report). r.machine) report ∙ apart_ends m st.draw T _ (sym (ap (λ (r : Report). r.answer) report) ∙ apart)
-
-abbrev two_of : DrawAndStates → Two
-two_of st = two st.low_extent st.high_extent st.low st.high
 
 module _ (s : Setting) (m : Machine) (st : DrawAndStates) (gs : List Event) where
   -- the tries up to a power of two
@@ -77,16 +74,16 @@ module _ (s : Setting) (m : Machine) (st : DrawAndStates) (gs : List Event) wher
       let after = apart_machine s m now (2 ^ k) here in
       record {
         now = left_apart s m now (2 ^ k);
-        tries = event (Try (2 ^ k)) (two_of now) sc ∷ c.tries;
+        tries = event (Try (2 ^ k)) now.states sc ∷ c.tries;
         comes = goes_on s m st k now _ c.comes larger below here refl;
         history = (with_out m (open_draw now.draw), c.history, refl, sym after);
-        tallies = subst (Tallies (event (Try (2 ^ k)) (two_of now) sc ∷ (c.tries ++ gs))) after (try_step s (two_of now) (c.tries ++ gs) (with_out m (open_draw now.draw)) now.draw (2 ^ k) sc refl refl c.tallies);
+        tallies = subst (Tallies (event (Try (2 ^ k)) now.states sc ∷ (c.tries ++ gs))) after (try_step s now.states (c.tries ++ gs) (with_out m (open_draw now.draw)) now.draw (2 ^ k) sc refl refl c.tallies);
         doubled =
             record {
               each =
                   λ e has.
                   ⊎_elim
-                  (λ (is : e ≡ event (Try (2 ^ k)) (two_of now) sc). (
+                  (λ (is : e ≡ event (Try (2 ^ k)) now.states sc). (
                     2 ^ k,
                     ap (λ (x : Event). x.request) is,
                     record { larger = omega (arith, tried_up s m st (2 ^ k) now left, larger); below = below; power = (k, refl) },
@@ -99,7 +96,7 @@ module _ (s : Setting) (m : Machine) (st : DrawAndStates) (gs : List Event) wher
                   λ U doubled under.
                   ⊎_elim
                   (λ (less : U < 2 ^ k). let t = c.doubled.all U doubled less in (t.0, inr t.1, t.2))
-                  (λ (is : U ≡ 2 ^ k). (event (Try (2 ^ k)) (two_of now) sc, inl refl, ap (λ (n : ℕ). Try n) (sym is)))
+                  (λ (is : U ≡ 2 ^ k). (event (Try (2 ^ k)) now.states sc, inl refl, ap (λ (n : ℕ). Try n) (sym is)))
                   (next_power k U doubled.power.0 doubled.power.1 under);
             };
       }
@@ -152,10 +149,10 @@ module _ (s : Setting) (m : Machine) (st : DrawAndStates) (gs : List Event) wher
 
   last_try : (T : ℕ) (now : DrawAndStates) (report : Report) (ts : List Event) → ((T ≡ m.stretch) ⊎ Doubled m.stretch st.draw.tried T) → DoubledTries m.stretch st.draw.tried T ts → History s (ts ++ gs) (with_out m (open_draw now.draw)) → Tallies (ts ++ gs) (with_out m (open_draw now.draw)) → report ≡ try_report s m now T → AsTries report
   last_try T now report ts window doubled history tallies reports = (
-    event (Try T) (two_of now) (reported report) ∷ ts,
+    event (Try T) now.states (reported report) ∷ ts,
     (T, window, refl, refl, doubled),
     (with_out m (open_draw now.draw), history, ap reported reports, refl),
-    try_step s (two_of now) (ts ++ gs) (with_out m (open_draw now.draw)) now.draw T (reported report) refl (ap reported reports) tallies,
+    try_step s now.states (ts ++ gs) (with_out m (open_draw now.draw)) now.draw T (reported report) refl (ap reported reports) tallies,
   )
 
   -- the run that goes through its windows

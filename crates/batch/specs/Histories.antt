@@ -2,8 +2,9 @@
 -- source.
 use Rattle.std.specs.Prelude.{◌≡◌, ℕ, Bool, true, false, ◌⊎◌, List, [], ◌∷◌}
 use Rattle.refusal.specs.Refusals.{given}
+use Rattle.batch.specs.Ends.{Two}
 use Rattle.batch.specs.Machine.{Machine, new_answer}
-use Rattle.batch.specs.Requests.{Carries, Said, Response, Two, said_apart, said_closed, said_given_up, said_met, said_misplaced, said_opened, said_refused}
+use Rattle.batch.specs.Requests.{Carries, Said, Response, said_apart, said_closed, said_given_up, said_met, said_misplaced, said_opened, said_refused}
 use Rattle.batch.specs.Tries.{Setting}
 use Rattle.batch.specs.declared.stage.Request.{Request}
 

@@ -1,8 +1,11 @@
+pub mod Ends
 pub mod Machine
 pub mod Faults
 pub mod Meanings
 pub mod Tries
+pub mod Settings
 pub mod Runs
+pub mod Reads
 pub mod Requests
 pub mod Stages
 pub mod Histories

@@ -1,10 +1,9 @@
 -- What the values of the protocol mean: the machine that each stands for, and the reports of its outcomes.
 use Rattle.std.specs.Prelude.{ℕ, ◌+◌, Bool, true, false, List, Ok, Err, Result}
-use Rattle.lattice.specs.Grid.{Extent}
 use Rattle.refusal.specs.Refusals.{Answer, Refusal, given, refused}
 use Rattle.batch.specs.Faults.{fault_refusal, full_refusal}
 use Rattle.batch.specs.Machine.{Counts, Draw, Machine, Out, met_draw, none, open_draw}
-use Rattle.batch.specs.Tries.{Report, DrawAndStates}
+use Rattle.batch.specs.Tries.{Report}
 use Rattle.batch.specs.declared.draws.Batch.{Batch}
 use Rattle.batch.specs.declared.draws.MetDraw.{MetDraw}
 use Rattle.batch.specs.declared.draws.OpenDraw.{OpenDraw}
@@ -23,23 +22,23 @@ abbrev pub drawn_says : Drawn → Draw
 drawn_says d = record { number = d.number; tried = d.window }
 
 abbrev pub batch_machine : Batch → Machine
-batch_machine b = record { stretch = b.stretch; opened = b.opened; met = b.met; given_up = b.given_up; out = none }
+batch_machine b = record { stretch = b.stretch; opened = b.tally.opened; met = b.tally.met; given_up = b.tally.given_up; out = none }
 
 -- A draw holds its batch as it was before the open: by now one draw more has been opened.
 abbrev pub with_draw : Batch → Out → Machine
-with_draw b o = record { stretch = b.stretch; opened = b.opened + 1; met = b.met; given_up = b.given_up; out = o }
+with_draw b o = record { stretch = b.stretch; opened = b.tally.opened + 1; met = b.tally.met; given_up = b.tally.given_up; out = o }
 
 abbrev pub open_one : OpenDraw → Draw
-open_one d = record { number = d.batch.opened; tried = d.tried }
+open_one d = record { number = d.batch.tally.opened; tried = d.tried }
 
 abbrev pub met_one : MetDraw → Draw
-met_one d = record { number = d.batch.opened; tried = d.window }
+met_one d = open_one d.draw
 
 abbrev pub open_machine : OpenDraw → Machine
 open_machine d = with_draw d.batch (open_draw (open_one d))
 
 abbrev pub met_machine : MetDraw → Machine
-met_machine d = with_draw d.batch (met_draw (met_one d))
+met_machine d = with_draw d.draw.batch (met_draw (met_one d))
 
 -- What an open answers, and the machine that it leaves.
 abbrev pub opened_as : Result (OpenDraw × Token) Full → Answer Machine
@@ -49,9 +48,6 @@ opened_as (Err f) = refused full_refusal
 abbrev pub left_by_open : Result (OpenDraw × Token) Full → Machine
 left_by_open (Ok p) = open_machine p.0
 left_by_open (Err f) = batch_machine f.batch
-
-abbrev pub draw_and_states : OpenDraw → (low_extent high_extent : Extent) → (low high : List ℕ) → DrawAndStates
-draw_and_states d e f x y = record { draw = open_one d; low_extent = e; high_extent = f; low = x; high = y }
 
 -- An outcome, and the cells of the two states after it, as a report.
 abbrev pub outcome_report : {F : Type 0} → (F → Refusal) → Outcome F → (low high : List ℕ) → Report

@@ -1,25 +1,12 @@
 -- What each request does in each stage of a batch.
 use Rattle.std.specs.Prelude.{◌≡◌, ℕ, Bool, true, false, List}
-use Rattle.lattice.specs.Grid.{Extent}
 use Rattle.refusal.specs.Refusals.{Answer, Refusal, given, refused}
+use Rattle.batch.specs.Ends.{Two}
 use Rattle.batch.specs.Machine.{Draw, Machine, Out, left_after, met_draw, none, one_closed, one_given_up, open_answer, open_draw}
 use Rattle.batch.specs.Runs.{RunReports}
-use Rattle.batch.specs.Tries.{Report, Setting, DrawAndStates, try_report}
+use Rattle.batch.specs.Tries.{Report, Setting, try_report, with_two}
 use Rattle.batch.specs.declared.stage.Request.{Request}
 use Rattle.batch.specs.declared.stage.Request.TheVariants.{Open, Try, Run, Close, GiveUp}
-
--- The two states that a request is handed: the extents that they carry, and their cells.
-pub record Two : Type 0 where
-  pub low_extent : Extent
-  pub high_extent : Extent
-  pub low : List ℕ
-  pub high : List ℕ
-
-abbrev pub two : (low_extent high_extent : Extent) → (low high : List ℕ) → Two
-two e f x y = record { low_extent = e; high_extent = f; low = x; high = y }
-
-abbrev pub with_two : Draw → Two → DrawAndStates
-with_two d t = record { draw = d; low_extent = t.low_extent; high_extent = t.high_extent; low = t.low; high = t.high }
 
 -- What a request answers. One that does not fit the stage is misplaced.
 pub data Said : Type 0 where

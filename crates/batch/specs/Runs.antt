@@ -3,9 +3,10 @@ use Rattle.std.specs.Prelude.{◌≡◌, ℕ, ◌^◌, ◌<◌, ◌≤◌, false
 use Rattle.lattice.specs.Faults.{state_refusal}
 use Rattle.lattice.specs.declared.fault.StateFault.TheVariants.{Foreign}
 use Rattle.refusal.specs.Refusals.{given}
+use Rattle.batch.specs.Ends.{two}
 use Rattle.batch.specs.Faults.{tried_refusal}
 use Rattle.batch.specs.Machine.{Machine, open_draw, with_out}
-use Rattle.batch.specs.Tries.{Report, Setting, DrawAndStates, owned, refused_report, tried_to, try_report}
+use Rattle.batch.specs.Tries.{Report, Setting, DrawAndStates, owned, refused_report, tried_to, try_report, with_two}
 
 -- The doubled windows of a run: the powers of two below the stretch that are larger than the largest window tried.
 pub record Doubled (stretch tried T : ℕ) : Type 0 where
@@ -25,12 +26,12 @@ AnswersApart s m st T = (try_report s m st T).answer ≡ given false
 abbrev pub doubled_report : Setting → Machine → DrawAndStates → ℕ → Report
 doubled_report s m st T =
     cond (nat_lt st.draw.tried T && nat_lt T m.stretch) (try_report s m st T)
-    (record { answer = given false; machine = with_out m (open_draw st.draw); low = st.low; high = st.high })
+    (record { answer = given false; machine = with_out m (open_draw st.draw); low = st.states.low; high = st.states.high })
 
 -- What a try of window T that was apart leaves for the next.
 abbrev pub after_apart : DrawAndStates → ℕ → Report → DrawAndStates
 after_apart st T report =
-    record { draw = tried_to st.draw T; low_extent = st.low_extent; high_extent = st.high_extent; low = report.low; high = report.high }
+    with_two (tried_to st.draw T) (two st.states.low_extent st.states.high_extent report.low report.high)
 
 abbrev pub left_apart : Setting → Machine → DrawAndStates → ℕ → DrawAndStates
 left_apart s m st T = after_apart st T (try_report s m st T)

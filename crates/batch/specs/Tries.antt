@@ -8,6 +8,7 @@ use Rattle.lattice.specs.Kind.{Meaning}
 use Rattle.lattice.specs.declared.fault.StateFault.TheVariants.{Foreign}
 use Rattle.refusal.specs.Refusals.{Answer, Refusal, given, provided, refused}
 use Rattle.sources.specs.Sources.{Reading, word_answer}
+use Rattle.batch.specs.Ends.{Two}
 use Rattle.batch.specs.Faults.{tried_refusal, unfilled_refusal, window_refusal}
 use Rattle.batch.specs.Machine.{Draw, Machine, met_draw, open_draw, with_out}
 
@@ -20,13 +21,13 @@ pub record Setting : Type 1 where
 abbrev pub setting : Meaning → Extent → Reading → Setting
 setting m e r = record { rule = m; extent = e; source = r }
 
--- An open draw, and the two states that a try is handed, with the extents that they carry.
+-- An open draw, and the two states that a try is handed.
 pub record DrawAndStates : Type 0 where
   pub draw : Draw
-  pub low_extent : Extent
-  pub high_extent : Extent
-  pub low : List ℕ
-  pub high : List ℕ
+  pub states : Two
+
+abbrev pub with_two : Draw → Two → DrawAndStates
+with_two d t = record { draw = d; states = t }
 
 -- What a try answers: met (true) or apart (false), or a refusal; and what it leaves: the machine and both states.
 pub record Report : Type 0 where
@@ -52,7 +53,7 @@ abbrev pub filled : Reading → (stretch number T : ℕ) → Answer (List ℕ)
 filled r stretch number T = read_for number T (word_answer r (draw_place stretch number T)) (λ w. window_words r stretch number T)
 
 abbrev pub owned : Setting → DrawAndStates → Bool
-owned s st = agree s.extent st.low_extent && agree s.extent st.high_extent
+owned s st = agree s.extent st.states.low_extent && agree s.extent st.states.high_extent
 
 -- The words that a try reads, or why it is refused.
 abbrev pub words_of_try : Setting → Machine → DrawAndStates → ℕ → Answer (List ℕ)
@@ -64,7 +65,7 @@ words_of_try s m st T =
 
 -- A refusal changes nothing.
 abbrev pub refused_report : Machine → DrawAndStates → Refusal → Report
-refused_report m st c = record { answer = refused c; machine = with_out m (open_draw st.draw); low = st.low; high = st.high }
+refused_report m st c = record { answer = refused c; machine = with_out m (open_draw st.draw); low = st.states.low; high = st.states.high }
 
 -- Ends that met are in both states, and the draw has met; else the states hold the two ends, and the draw stays open.
 abbrev pub ends_report : Machine → Draw → ℕ → Ends → Report

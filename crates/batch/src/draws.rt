@@ -5,20 +5,18 @@ mod calls;
 mod numbers;
 mod runs;
 mod tries;
+mod windows;
 
 // An idle batch: no draw is out. It may be let go.
 #[derive(Drop)]
 pub struct Batch {
     // How many places each draw has.
     stretch: u32,
-    // How many draws were opened, how many of them closed as met, and how many given up.
-    opened: u32,
-    met: u32,
-    given_up: u32,
+    tally: Tally,
     ghost some: { 1 ≤ stretch },
     ghost fits: { stretch ≤ 1048576 },
-    ghost few: { opened ≤ 1048576 },
-    ghost fair: { opened ≡ met + given_up },
+    ghost few: { tally.opened ≤ 1048576 },
+    ghost fair: { tally.opened ≡ tally.met + tally.given_up },
 }
 
 // A draw that has not met. It may not be let go.
@@ -27,18 +25,14 @@ pub struct OpenDraw {
     batch: Batch,
     // The largest window tried, 0 at first.
     tried: u32,
-    ghost few: { batch.opened < 1048576 },
+    ghost few: { batch.tally.opened < 1048576 },
     ghost fits: { tried ≤ batch.stretch },
 }
 
-// A draw that has met. It may not be let go.
+// A draw that has met, in the window that was tried last. It may not be let go.
 pub struct MetDraw {
-    batch: Batch,
-    // The window that met.
-    window: u32,
-    ghost few: { batch.opened < 1048576 },
-    ghost some: { 1 ≤ window },
-    ghost fits: { window ≤ batch.stretch },
+    draw: OpenDraw,
+    ghost some: { 1 ≤ draw.tried },
 }
 
 // Goes with a draw, and is given back where the draw ends.
@@ -46,7 +40,7 @@ pub struct Token {
     _private: (),
 }
 
-// How many draws of a batch were opened, how many closed as met, and how many given up.
+// How many draws of a batch were opened, how many of them closed as met, and how many given up.
 #[derive(Clone, Copy)]
 pub struct Tally {
     pub opened: u32,

@@ -2,6 +2,8 @@
 #![tactic(auto)]
 
 pub mod draws;
+pub mod ends;
 pub mod fault;
 pub mod outcome;
+pub mod setting;
 pub mod stage;

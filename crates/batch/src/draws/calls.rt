@@ -5,7 +5,7 @@ ghost use Rattle.batch.specs.Machine.{left_after, new_answer, one_closed, one_gi
 ghost use Rattle.batch.specs.Meanings.{batch_machine, left_by_open, met_machine, open_machine, opened_as};
 ghost use Rattle.refusal.specs.Refusals.{answer};
 
-use crate::draws::{Batch, MetDraw, OpenDraw, Token};
+use crate::draws::{Batch, MetDraw, OpenDraw, Tally, Token};
 use crate::fault::{Full, StretchFault};
 
 // The largest stretch, and the largest number of draws of a batch.
@@ -19,11 +19,14 @@ impl Batch {
         if stretch < 1 || stretch > u64::from(LIMIT) {
             return Err(StretchFault);
         }
-        Ok(Batch {
-            stretch: stretch as u32,
+        let tally = Tally {
             opened: 0,
             met: 0,
             given_up: 0,
+        };
+        Ok(Batch {
+            stretch: stretch as u32,
+            tally,
         })
     }
 
@@ -32,7 +35,7 @@ impl Batch {
         ensures answers { opened_as result ≡ open_answer (batch_machine self) }
         ensures leaves { left_by_open result ≡ left_after (open_answer (batch_machine self)) (batch_machine self) }
     {
-        if self.opened >= LIMIT {
+        if self.tally.opened >= LIMIT {
             return Err(Full { batch: self });
         }
         let draw = OpenDraw {
@@ -49,12 +52,15 @@ impl MetDraw {
         ensures { batch_machine result ≡ one_closed (met_machine self) }
     {
         let Token { _private } = token;
-        let MetDraw { batch, window: _ } = self;
+        let MetDraw { draw } = self;
+        let OpenDraw { batch, tried: _ } = draw;
+        let tally = batch.tally.with_draw();
         Batch {
             stretch: batch.stretch,
-            opened: batch.opened + 1,
-            met: batch.met + 1,
-            given_up: batch.given_up,
+            tally: Tally {
+                met: tally.met + 1,
+                ..tally
+            },
         }
     }
 }
@@ -66,11 +72,13 @@ impl OpenDraw {
     {
         let Token { _private } = token;
         let OpenDraw { batch, tried: _ } = self;
+        let tally = batch.tally.with_draw();
         Batch {
             stretch: batch.stretch,
-            opened: batch.opened + 1,
-            met: batch.met,
-            given_up: batch.given_up + 1,
+            tally: Tally {
+                given_up: tally.given_up + 1,
+                ..tally
+            },
         }
     }
 }

@@ -1,7 +1,7 @@
 // The numbers of batches and draws.
-ghost use Rattle.std.specs.Prelude.{◌≡◌, ◌<◌};
-ghost use Rattle.batch.specs.Machine.{counts, none};
-ghost use Rattle.batch.specs.Meanings.{batch_machine, drawn_says, met_machine, met_one, open_machine, open_one, tally_says, with_draw};
+ghost use Rattle.std.specs.Prelude.{◌≡◌, ◌+◌, ◌<◌};
+ghost use Rattle.batch.specs.Machine.{counts};
+ghost use Rattle.batch.specs.Meanings.{batch_machine, drawn_says, met_machine, met_one, open_machine, open_one, tally_says};
 
 use crate::draws::{Batch, MetDraw, OpenDraw, Tally};
 use crate::stage::Drawn;
@@ -17,22 +17,19 @@ impl Batch {
     pub fn tally(&self) -> Tally
         ensures { tally_says result ≡ counts (batch_machine self.now) }
     {
-        Tally {
-            opened: self.opened,
-            met: self.met,
-            given_up: self.given_up,
-        }
+        self.tally
     }
+}
 
+impl Tally {
     // The tally while a draw is out, which has been opened too.
-    fn tally_with_draw(&self) -> Tally
-        requires { self.now.opened < 1048576 }
-        ensures { tally_says result ≡ counts (with_draw self.now none) }
+    pub(super) fn with_draw(self) -> Tally
+        requires { self.opened < 1048576 }
+        ensures { result ≡ record self { opened = self.opened + 1 } }
     {
         Tally {
             opened: self.opened + 1,
-            met: self.met,
-            given_up: self.given_up,
+            ..self
         }
     }
 }
@@ -43,7 +40,7 @@ impl OpenDraw {
         ensures { drawn_says result ≡ open_one self.now }
     {
         Drawn {
-            number: self.batch.opened,
+            number: self.batch.tally.opened,
             window: self.tried,
         }
     }
@@ -51,7 +48,7 @@ impl OpenDraw {
     pub(crate) fn tally(&self) -> Tally
         ensures { tally_says result ≡ counts (open_machine self.now) }
     {
-        self.batch.tally_with_draw()
+        self.batch.tally.with_draw()
     }
 }
 
@@ -60,15 +57,12 @@ impl MetDraw {
     pub fn drawn(&self) -> Drawn
         ensures { drawn_says result ≡ met_one self.now }
     {
-        Drawn {
-            number: self.batch.opened,
-            window: self.window,
-        }
+        self.draw.drawn()
     }
 
     pub(crate) fn tally(&self) -> Tally
         ensures { tally_says result ≡ counts (met_machine self.now) }
     {
-        self.batch.tally_with_draw()
+        self.draw.tally()
     }
 }

@@ -1,12 +1,16 @@
 // Running an open draw: windows are tried in turn until one meets.
 ghost use Rattle.std.specs.Prelude.{◌≡◌, ◌^◌, ◌<◌, ◌≤◌, true, Ok};
-ghost use Rattle.batch.specs.Meanings.{open_machine, outcome_report, result_report, draw_and_states};
+ghost use Rattle.batch.specs.Ends.{SameExtents};
+ghost use Rattle.batch.specs.Meanings.{open_machine, open_one, outcome_report, result_report};
 ghost use Rattle.batch.specs.Runs.{RunReports, doubled_report};
-ghost use Rattle.batch.specs.Tries.{setting};
+ghost use Rattle.batch.specs.Settings.{setting_of};
+ghost use Rattle.batch.specs.Tries.{with_two};
 
 use crate::draws::OpenDraw;
+use crate::ends::Ends;
 use crate::fault::Fault;
 use crate::outcome::Outcome;
+use crate::setting::Setting;
 use lattice::kind::Kind;
 use sources::source::Source;
 
@@ -15,57 +19,51 @@ impl OpenDraw {
     // the stretch. Windows that are not larger than one tried before are passed over.
     pub fn run<K: Kind, S: Source>(
         mut self,
-        rule: &K,
-        source: &S,
-        low: &mut K::State,
-        high: &mut K::State,
+        setting: &Setting<K, S>,
+        ends: &mut Ends<K>,
     ) -> Outcome<S::Fault>
-        ensures reports { RunReports (setting (K.meaning rule.now) (K.extent rule.now) (S.reading source.now)) (open_machine self) (draw_and_states self (K.carried low.old) (K.carried high.old) (K.cells low.old) (K.cells high.old)) (outcome_report S.Fault.refusal result (K.cells low.new) (K.cells high.new)) }
-        ensures keeps { (K.carried low.new ≡ K.carried low.old) × (K.carried high.new ≡ K.carried high.old) }
+        ensures reports { RunReports (setting_of K.Kind S.Source setting.now) (open_machine self) (with_two (open_one self) ends.old) (outcome_report S.Fault.refusal result ends.new.low ends.new.high) }
+        ensures keeps { SameExtents ends.old ends.new }
     {
-        let result = self.try_windows(rule, source, low, high);
+        let result = self.try_windows(setting, ends);
         self.into_outcome(result)
     }
 
     // Tries the windows of a run, and answers whether one met.
     fn try_windows<K: Kind, S: Source>(
         &mut self,
-        rule: &K,
-        source: &S,
-        low: &mut K::State,
-        high: &mut K::State,
+        setting: &Setting<K, S>,
+        ends: &mut Ends<K>,
     ) -> Result<bool, Fault<S::Fault>>
-        ensures reports { RunReports (setting (K.meaning rule.now) (K.extent rule.now) (S.reading source.now)) (open_machine self.old) (draw_and_states self.old (K.carried low.old) (K.carried high.old) (K.cells low.old) (K.cells high.old)) (result_report S.Fault.refusal result self.new (K.cells low.new) (K.cells high.new)) }
+        ensures reports { RunReports (setting_of K.Kind S.Source setting.now) (open_machine self.old) (with_two (open_one self.old) ends.old) (result_report S.Fault.refusal result self.new ends.new.low ends.new.high) }
         ensures some { result ≡ Ok true → 1 ≤ self.new.tried }
-        ensures keeps { (K.carried low.new ≡ K.carried low.old) × (K.carried high.new ≡ K.carried high.old) }
+        ensures keeps { SameExtents ends.old ends.new }
     {
         let stretch = u64::from(self.batch.stretch);
         for exponent in 0u32..20 {
-            if self.try_doubled(rule, source, power_of_two(exponent), low, high)? {
+            if self.try_doubled(setting, power_of_two(exponent), ends)? {
                 return Ok(true);
             }
         }
-        self.attempt(rule, source, stretch, low, high)
+        self.attempt(setting, stretch, ends)
     }
 
     // Tries a window if it is below the stretch and larger than the largest tried, and else passes it over.
     fn try_doubled<K: Kind, S: Source>(
         &mut self,
-        rule: &K,
-        source: &S,
+        setting: &Setting<K, S>,
         window: u64,
-        low: &mut K::State,
-        high: &mut K::State,
+        ends: &mut Ends<K>,
     ) -> Result<bool, Fault<S::Fault>>
-        ensures reports { result_report S.Fault.refusal result self.new (K.cells low.new) (K.cells high.new) ≡ doubled_report (setting (K.meaning rule.now) (K.extent rule.now) (S.reading source.now)) (open_machine self.old) (draw_and_states self.old (K.carried low.old) (K.carried high.old) (K.cells low.old) (K.cells high.old)) window }
+        ensures reports { result_report S.Fault.refusal result self.new ends.new.low ends.new.high ≡ doubled_report (setting_of K.Kind S.Source setting.now) (open_machine self.old) (with_two (open_one self.old) ends.old) window }
         ensures some { result ≡ Ok true → 1 ≤ self.new.tried }
         ensures same { self.new.batch ≡ self.old.batch }
-        ensures keeps { (K.carried low.new ≡ K.carried low.old) × (K.carried high.new ≡ K.carried high.old) }
+        ensures keeps { SameExtents ends.old ends.new }
     {
         if window <= u64::from(self.tried) || window >= u64::from(self.batch.stretch) {
             return Ok(false);
         }
-        self.attempt(rule, source, window, low, high)
+        self.attempt(setting, window, ends)
     }
 }
 

@@ -1,19 +1,22 @@
 // Carrying out requests.
 ghost use Rattle.std.specs.Prelude.{◌≡◌, ℕ, List, ◌∷◌};
-ghost use Rattle.batch.specs.Meanings.{batch_machine, drawn_says, met_machine, open_machine, outcome_report, tally_says};
-ghost use Rattle.batch.specs.Requests.{Carries, Two, WhenIdle, WhenMet, states_kept, reported, response, two};
+ghost use Rattle.batch.specs.Ends.{SameExtents};
 ghost use Rattle.batch.specs.Histories.{Event, History, event};
 ghost use Rattle.batch.specs.Machine.{counts, drawn};
+ghost use Rattle.batch.specs.Meanings.{drawn_says, outcome_report, tally_says};
 ghost use Rattle.batch.specs.Promises.{HoldsInEveryHistory};
-ghost use Rattle.coupling.specs.Shares.{EqualShares};
+ghost use Rattle.batch.specs.Requests.{Carries, reported, response};
+ghost use Rattle.batch.specs.Settings.{setting_of};
 ghost use Rattle.batch.specs.Stages.{said_by, stage_machine};
-ghost use Rattle.std.specs.Option.{option_map};
-ghost use Rattle.batch.specs.Tries.{setting};
+ghost use Rattle.coupling.specs.Shares.{EqualShares};
 ghost use Rattle.refusal.specs.Refusals.{Refusal};
+ghost use Rattle.std.specs.Option.{option_map};
 
-use crate::draws::{Batch, MetDraw, OpenDraw, Tally, Token};
+use crate::draws::{Tally, Token};
+use crate::ends::Ends;
 use crate::fault::{Fault, Full};
 use crate::outcome::Outcome;
+use crate::setting::Setting;
 use crate::stage::{Drawn, Reply, Request, Stage};
 use coupling::shares_are_equal;
 use lattice::even::Even;
@@ -47,124 +50,67 @@ impl Stage {
     pub fn carry_out<K: Kind, S: Source>(
         self,
         request: Request,
-        rule: &K,
-        source: &S,
-        low: &mut K::State,
-        high: &mut K::State,
+        setting: &Setting<K, S>,
+        ends: &mut Ends<K>,
     ) -> (Stage, Reply<S::Fault>)
-        ensures carries { Carries (setting (K.meaning rule.now) (K.extent rule.now) (S.reading source.now)) (two (K.carried low.old) (K.carried high.old) (K.cells low.old) (K.cells high.old)) (stage_machine self) request (response (said_by S.Fault.refusal result.1) (stage_machine result.0) (K.cells low.new) (K.cells high.new)) }
-        ensures goes_on { (es : List Event) → History (setting (K.meaning rule.now) (K.extent rule.now) (S.reading source.now)) es (stage_machine self) → History (setting (K.meaning rule.now) (K.extent rule.now) (S.reading source.now)) (event request (two (K.carried low.old) (K.carried high.old) (K.cells low.old) (K.cells high.old)) (response (said_by S.Fault.refusal result.1) (stage_machine result.0) (K.cells low.new) (K.cells high.new)) ∷ es) (stage_machine result.0) }
-        ensures holds { HoldsInEveryHistory (setting (K.meaning rule.now) (K.extent rule.now) (S.reading source.now)) }
-        ensures keeps { (K.carried low.new ≡ K.carried low.old) × (K.carried high.new ≡ K.carried high.old) }
+        ensures carries { Carries (setting_of K.Kind S.Source setting.now) ends.old (stage_machine self) request (response (said_by S.Fault.refusal result.1) (stage_machine result.0) ends.new.low ends.new.high) }
+        ensures goes_on { (es : List Event) → History (setting_of K.Kind S.Source setting.now) es (stage_machine self) → History (setting_of K.Kind S.Source setting.now) (event request ends.old (response (said_by S.Fault.refusal result.1) (stage_machine result.0) ends.new.low ends.new.high) ∷ es) (stage_machine result.0) }
+        ensures holds { HoldsInEveryHistory (setting_of K.Kind S.Source setting.now) }
+        ensures keeps { SameExtents ends.old ends.new }
     {
-        histories_are_exact(rule, source);
-        self.go_on(request, rule, source, low, high)
+        setting.source.sound();
+        self.step(request, setting, ends)
     }
 
     // The same for an even kind: each lawful state has its share of all lists of words.
     pub fn carry_out_even<E: Even, S: Source>(
         self,
         request: Request,
-        rule: &E,
-        source: &S,
-        low: &mut E::State,
-        high: &mut E::State,
+        setting: &Setting<E, S>,
+        ends: &mut Ends<E>,
     ) -> (Stage, Reply<S::Fault>)
-        ensures carries { Carries (setting (E.meaning rule.now) (E.extent rule.now) (S.reading source.now)) (two (E.carried low.old) (E.carried high.old) (E.cells low.old) (E.cells high.old)) (stage_machine self) request (response (said_by S.Fault.refusal result.1) (stage_machine result.0) (E.cells low.new) (E.cells high.new)) }
-        ensures goes_on { (es : List Event) → History (setting (E.meaning rule.now) (E.extent rule.now) (S.reading source.now)) es (stage_machine self) → History (setting (E.meaning rule.now) (E.extent rule.now) (S.reading source.now)) (event request (two (E.carried low.old) (E.carried high.old) (E.cells low.old) (E.cells high.old)) (response (said_by S.Fault.refusal result.1) (stage_machine result.0) (E.cells low.new) (E.cells high.new)) ∷ es) (stage_machine result.0) }
-        ensures holds { HoldsInEveryHistory (setting (E.meaning rule.now) (E.extent rule.now) (S.reading source.now)) }
-        ensures shares { EqualShares (E.meaning rule.now) }
-        ensures keeps { (E.carried low.new ≡ E.carried low.old) × (E.carried high.new ≡ E.carried high.old) }
+        ensures carries { Carries (setting_of E.Kind S.Source setting.now) ends.old (stage_machine self) request (response (said_by S.Fault.refusal result.1) (stage_machine result.0) ends.new.low ends.new.high) }
+        ensures goes_on { (es : List Event) → History (setting_of E.Kind S.Source setting.now) es (stage_machine self) → History (setting_of E.Kind S.Source setting.now) (event request ends.old (response (said_by S.Fault.refusal result.1) (stage_machine result.0) ends.new.low ends.new.high) ∷ es) (stage_machine result.0) }
+        ensures holds { HoldsInEveryHistory (setting_of E.Kind S.Source setting.now) }
+        ensures shares { EqualShares (E.meaning setting.now.rule.now) }
+        ensures keeps { SameExtents ends.old ends.new }
     {
-        shares_are_equal(rule);
-        self.carry_out(request, rule, source, low, high)
-    }
-
-    fn go_on<K: Kind, S: Source>(
-        self,
-        request: Request,
-        rule: &K,
-        source: &S,
-        low: &mut K::State,
-        high: &mut K::State,
-    ) -> (Stage, Reply<S::Fault>)
-        ensures carries { Carries (setting (K.meaning rule.now) (K.extent rule.now) (S.reading source.now)) (two (K.carried low.old) (K.carried high.old) (K.cells low.old) (K.cells high.old)) (stage_machine self) request (response (said_by S.Fault.refusal result.1) (stage_machine result.0) (K.cells low.new) (K.cells high.new)) }
-        ensures goes_on { (es : List Event) → History (setting (K.meaning rule.now) (K.extent rule.now) (S.reading source.now)) es (stage_machine self) → History (setting (K.meaning rule.now) (K.extent rule.now) (S.reading source.now)) (event request (two (K.carried low.old) (K.carried high.old) (K.cells low.old) (K.cells high.old)) (response (said_by S.Fault.refusal result.1) (stage_machine result.0) (K.cells low.new) (K.cells high.new)) ∷ es) (stage_machine result.0) }
-        ensures keeps { (K.carried low.new ≡ K.carried low.old) × (K.carried high.new ≡ K.carried high.old) }
-    {
-        self.step(request, rule, source, low, high)
+        shares_are_equal(setting.rule);
+        self.carry_out(request, setting, ends)
     }
 
     fn step<K: Kind, S: Source>(
         self,
         request: Request,
-        rule: &K,
-        source: &S,
-        low: &mut K::State,
-        high: &mut K::State,
+        setting: &Setting<K, S>,
+        ends: &mut Ends<K>,
     ) -> (Stage, Reply<S::Fault>)
-        ensures carries { Carries (setting (K.meaning rule.now) (K.extent rule.now) (S.reading source.now)) (two (K.carried low.old) (K.carried high.old) (K.cells low.old) (K.cells high.old)) (stage_machine self) request (response (said_by S.Fault.refusal result.1) (stage_machine result.0) (K.cells low.new) (K.cells high.new)) }
-        ensures keeps { (K.carried low.new ≡ K.carried low.old) × (K.carried high.new ≡ K.carried high.old) }
+        ensures carries { Carries (setting_of K.Kind S.Source setting.now) ends.old (stage_machine self) request (response (said_by S.Fault.refusal result.1) (stage_machine result.0) ends.new.low ends.new.high) }
+        ensures keeps { SameExtents ends.old ends.new }
     {
-        match self {
-            Stage::Idle(batch) => when_idle(batch, request),
-            Stage::Open(draw, token) => when_open(draw, token, request, rule, source, low, high),
-            Stage::Met(draw, token) => when_met(draw, token, request),
+        match (self, request) {
+            (Stage::Idle(batch), Request::Open) => match batch.open() {
+                Ok(opened) => {
+                    let (draw, token) = opened;
+                    (Stage::Open(draw, token), Reply::Opened)
+                }
+                Err(full) => {
+                    let Full { batch } = full;
+                    (Stage::Idle(batch), Reply::Refused(Fault::Full))
+                }
+            },
+            (Stage::Open(draw, token), Request::Try(window)) => {
+                settled(draw.try_window(setting, window, ends), token)
+            }
+            (Stage::Open(draw, token), Request::Run) => settled(draw.run(setting, ends), token),
+            (Stage::Open(draw, token), Request::GiveUp) => {
+                (Stage::Idle(draw.give_up(token)), Reply::GivenUp)
+            }
+            (Stage::Met(draw, token), Request::Close) => {
+                (Stage::Idle(draw.close(token)), Reply::Closed)
+            }
+            (stage, _) => (stage, Reply::Misplaced),
         }
-    }
-}
-
-// Does nothing: its promise is for the proof of what calls it.
-fn histories_are_exact<K: Kind, S: Source>(rule: &K, source: &S)
-    ensures holds { HoldsInEveryHistory (setting (K.meaning rule.now) (K.extent rule.now) (S.reading source.now)) }
-{
-    source.sound();
-}
-
-fn when_idle<F: Drop>(batch: Batch, request: Request) -> (Stage, Reply<F>)
-    ensures { (why : F → Refusal) → (t : Two) → WhenIdle t (batch_machine batch) request (states_kept (said_by why result.1) (stage_machine result.0) t) }
-{
-    match request {
-        Request::Open => match batch.open() {
-            Ok(opened) => {
-                let (draw, token) = opened;
-                (Stage::Open(draw, token), Reply::Opened)
-            }
-            Err(full) => {
-                let Full { batch } = full;
-                (Stage::Idle(batch), Reply::Refused(Fault::Full))
-            }
-        },
-        _ => (Stage::Idle(batch), Reply::Misplaced),
-    }
-}
-
-fn when_open<K: Kind, S: Source>(
-    draw: OpenDraw,
-    token: Token,
-    request: Request,
-    rule: &K,
-    source: &S,
-    low: &mut K::State,
-    high: &mut K::State,
-) -> (Stage, Reply<S::Fault>)
-    ensures carries { Carries (setting (K.meaning rule.now) (K.extent rule.now) (S.reading source.now)) (two (K.carried low.old) (K.carried high.old) (K.cells low.old) (K.cells high.old)) (open_machine draw) request (response (said_by S.Fault.refusal result.1) (stage_machine result.0) (K.cells low.new) (K.cells high.new)) }
-    ensures keeps { (K.carried low.new ≡ K.carried low.old) × (K.carried high.new ≡ K.carried high.old) }
-{
-    match request {
-        Request::Try(window) => settled(draw.try_window(rule, source, window, low, high), token),
-        Request::Run => settled(draw.run(rule, source, low, high), token),
-        Request::GiveUp => (Stage::Idle(draw.give_up(token)), Reply::GivenUp),
-        _ => (Stage::Open(draw, token), Reply::Misplaced),
-    }
-}
-
-fn when_met<F: Drop>(draw: MetDraw, token: Token, request: Request) -> (Stage, Reply<F>)
-    ensures { (why : F → Refusal) → (t : Two) → WhenMet t (met_machine draw) request (states_kept (said_by why result.1) (stage_machine result.0) t) }
-{
-    match request {
-        Request::Close => (Stage::Idle(draw.close(token)), Reply::Closed),
-        _ => (Stage::Met(draw, token), Reply::Misplaced),
     }
 }
 
