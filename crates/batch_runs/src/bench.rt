@@ -2,7 +2,9 @@
 use crate::ends::end;
 use anyhow::Context;
 use batch::draws::Batch;
+use batch::ends::Ends;
 use batch::outcome::Outcome;
+use batch::setting::Setting;
 use batch::stage::Drawn;
 use lattice::kind::Kind;
 use partitions::rule::Partitions;
@@ -19,8 +21,7 @@ use task::answers::numbers_line;
 pub struct Bench<'a> {
     pub rule: Partitions,
     words: Recording<'a>,
-    pub low: PlanePartition,
-    pub high: PlanePartition,
+    pub ends: Ends<Partitions>,
 }
 
 #[derive(Clone, Copy)]
@@ -42,14 +43,8 @@ impl<'a> Bench<'a> {
     pub fn new(heap: Global, cap: u64, bytes: &'a [u8]) -> anyhow::Result<Bench<'a>> {
         let rule = accepted(Partitions::new(1, 1, cap))?;
         let words = accepted(Recording::new(bytes))?;
-        let low = accepted(rule.new_state(heap))?;
-        let high = accepted(rule.new_state(heap))?;
-        Ok(Bench {
-            rule,
-            words,
-            low,
-            high,
-        })
+        let ends = accepted(Ends::new(heap, &rule))?;
+        Ok(Bench { rule, words, ends })
     }
 
     // Opens the next draw, makes the calls on it in turn, and ends it.
@@ -79,28 +74,25 @@ impl<'a> Bench<'a> {
             Outcome::Apart(draw) => draw,
             Outcome::Refused(draw, _) => draw,
         };
+        let setting = Setting {
+            rule: &self.rule,
+            source: &self.words,
+        };
         match call {
-            Call::Try(window) => draw.try_window(
-                &self.rule,
-                &self.words,
-                window,
-                &mut self.low,
-                &mut self.high,
-            ),
-            Call::Run => draw.run(&self.rule, &self.words, &mut self.low, &mut self.high),
+            Call::Try(window) => draw.try_window(&setting, window, &mut self.ends),
+            Call::Run => draw.run(&setting, &mut self.ends),
         }
     }
 
     fn say(&self, rt: &HostRuntime, call: Call, outcome: &Outcome<NoWord>) -> anyhow::Result<()> {
         let heap = rt.alloc();
-        let (answer, drawn) = match outcome {
+        let (answer, Drawn { number, window }) = match outcome {
             Outcome::Met(draw) => (String::from_str(heap, "met")?, draw.drawn()),
             Outcome::Apart(draw) => (String::from_str(heap, "apart")?, draw.drawn()),
             Outcome::Refused(draw, fault) => (refusal_text(heap, fault)?, draw.drawn()),
         };
-        let Drawn { number, window } = drawn;
-        let low = height_text(heap, &self.rule, &self.low)?;
-        let high = height_text(heap, &self.rule, &self.high)?;
+        let low = height_text(heap, &self.rule, &self.ends.low)?;
+        let high = height_text(heap, &self.rule, &self.ends.high)?;
         println!(rt; "{call}: {answer}, draw {number} window {window}, heights {low} {high}")?;
         Ok(())
     }
