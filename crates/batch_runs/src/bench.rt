@@ -1,8 +1,10 @@
 // What draws are run with, and a draw from its opening to its end, with a printed line for each call.
 use crate::ends::end;
-use anyhow::anyhow;
+use anyhow::Context;
 use batch::draws::Batch;
+use batch::ends::Ends;
 use batch::outcome::Outcome;
+use batch::setting::Setting;
 use batch::stage::Drawn;
 use lattice::kind::Kind;
 use partitions::rule::Partitions;
@@ -11,6 +13,7 @@ use refusal::Cause;
 use sources::fault::NoWord;
 use sources::recording::Recording;
 use std::alloc::{AllocError, Global};
+use std::fmt;
 use task::answers::numbers_line;
 
 // The rule of one height, recorded words, and the states of the two ends.
@@ -18,8 +21,7 @@ use task::answers::numbers_line;
 pub struct Bench<'a> {
     pub rule: Partitions,
     words: Recording<'a>,
-    pub low: PlanePartition,
-    pub high: PlanePartition,
+    pub ends: Ends<Partitions>,
 }
 
 #[derive(Clone, Copy)]
@@ -28,18 +30,21 @@ pub enum Call {
     Run,
 }
 
+impl fmt::Display for Call {
+    fn fmt<W: fmt::Write>(&self, f: &mut fmt::Formatter<W>) -> fmt::Result {
+        match self {
+            Call::Try(window) => write!(f, "window {window}"),
+            Call::Run => write!(f, "run"),
+        }
+    }
+}
+
 impl<'a> Bench<'a> {
     pub fn new(heap: Global, cap: u64, bytes: &'a [u8]) -> anyhow::Result<Bench<'a>> {
         let rule = accepted(Partitions::new(1, 1, cap))?;
         let words = accepted(Recording::new(bytes))?;
-        let low = accepted(rule.new_state(heap))?;
-        let high = accepted(rule.new_state(heap))?;
-        Ok(Bench {
-            rule,
-            words,
-            low,
-            high,
-        })
+        let ends = accepted(Ends::new(heap, &rule))?;
+        Ok(Bench { rule, words, ends })
     }
 
     // Opens the next draw, makes the calls on it in turn, and ends it.
@@ -69,33 +74,26 @@ impl<'a> Bench<'a> {
             Outcome::Apart(draw) => draw,
             Outcome::Refused(draw, _) => draw,
         };
+        let setting = Setting {
+            rule: &self.rule,
+            source: &self.words,
+        };
         match call {
-            Call::Try(window) => draw.try_window(
-                &self.rule,
-                &self.words,
-                window,
-                &mut self.low,
-                &mut self.high,
-            ),
-            Call::Run => draw.run(&self.rule, &self.words, &mut self.low, &mut self.high),
+            Call::Try(window) => draw.try_window(&setting, window, &mut self.ends),
+            Call::Run => draw.run(&setting, &mut self.ends),
         }
     }
 
     fn say(&self, rt: &HostRuntime, call: Call, outcome: &Outcome<NoWord>) -> anyhow::Result<()> {
-        match call {
-            Call::Try(window) => print!(rt; "window {window}: ")?,
-            Call::Run => print!(rt; "run: ")?,
-        }
         let heap = rt.alloc();
-        let (answer, drawn) = match outcome {
+        let (answer, Drawn { number, window }) = match outcome {
             Outcome::Met(draw) => (String::from_str(heap, "met")?, draw.drawn()),
             Outcome::Apart(draw) => (String::from_str(heap, "apart")?, draw.drawn()),
             Outcome::Refused(draw, fault) => (refusal_text(heap, fault)?, draw.drawn()),
         };
-        let Drawn { number, window } = drawn;
-        let low = height_text(heap, &self.rule, &self.low)?;
-        let high = height_text(heap, &self.rule, &self.high)?;
-        println!(rt; "{answer}, draw {number} window {window}, heights {low} {high}")?;
+        let low = height_text(heap, &self.rule, &self.ends.low)?;
+        let high = height_text(heap, &self.rule, &self.ends.high)?;
+        println!(rt; "{call}: {answer}, draw {number} window {window}, heights {low} {high}")?;
         Ok(())
     }
 }
@@ -119,8 +117,5 @@ pub fn refusal_text<C: Cause>(heap: Global, cause: &C) -> Result<String, AllocEr
 
 // What a call gives that is not to be refused.
 pub fn accepted<T, E: Drop>(answer: Result<T, E>) -> anyhow::Result<T> {
-    match answer {
-        Ok(value) => Ok(value),
-        Err(_) => Err(anyhow!("a call was refused")),
-    }
+    answer.ok().context("a call was refused")
 }

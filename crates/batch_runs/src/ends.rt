@@ -1,4 +1,5 @@
 // How draws and batches end. A draw ends once, with its token, and as what it is; only an idle batch may be let go.
+// tools/refused_moves has two of these lines made wrong, and shows that the check refuses them.
 ghost use Rattle.std.specs.Prelude.{◌≡◌, if◌then◌else◌, nat_lt};
 ghost use Rattle.batch.specs.Machine.{limit, one_closed, one_given_up, one_opened};
 ghost use Rattle.batch.specs.Meanings.{batch_machine, met_machine, open_machine};
@@ -31,10 +32,7 @@ pub fn give_up_next(batch: Batch) -> Batch
     ensures { batch_machine result ≡ (if nat_lt (batch_machine batch).opened limit then one_given_up (one_opened (batch_machine batch)) else batch_machine batch) }
 {
     match batch.open() {
-        Ok(opened) => {
-            let (draw, token) = opened;
-            end_apart(draw, token)
-        }
+        Ok((draw, token)) => end_apart(draw, token),
         Err(full) => full.batch,
     }
 }

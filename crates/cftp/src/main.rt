@@ -5,9 +5,10 @@ use session::input::Lines;
 use session::progress::Progress;
 use session::stages::carry_out_showing;
 use session::trouble::Stopped;
+use std::fs::File;
 use std::io::{BufReader, Read};
 use std::process::ExitCode;
-use std::{env, fs, io};
+use std::{env, fmt, fs, io};
 
 const HELP: &str = "cftp: exact random states of lattice models
 
@@ -37,66 +38,78 @@ A task has one directive a line:
   tally                 print how many draws were opened, met and given up
 Empty lines and lines that begin with # are skipped. docs/TASKS.md has the whole of it.";
 
-// The program ends with status 1 where not all went well. What went wrong has been printed, unless printing failed or
-// there was no memory.
-fn main(rt: HostRuntime) -> ExitCode {
-    match begin(&rt) {
-        Ok(true) => ExitCode::SUCCESS,
-        Ok(false) | Err(_) => ExitCode::FAILURE,
+// Why the program ends with status 1.
+#[derive(Drop)]
+enum Failure {
+    Usage,
+    // The file at the path cannot be opened.
+    Unopened { path: String, error: io::Error },
+    // The task stopped before its end.
+    Stopped(Stopped),
+    // The arguments, the output or memory failed.
+    Io(io::Error),
+}
+
+impl From<io::Error> for Failure {
+    fn from(error: io::Error) -> Failure {
+        Failure::Io(error)
     }
 }
 
-// Whether all went well. What went wrong is told on standard error.
-fn begin(rt: &HostRuntime) -> io::Result<bool> {
-    let mut args = env::args(rt)?;
-    let _program = args.next();
-    let mut progress = Progress::Hidden;
-    let mut path = args.next();
-    if let Some(word) = &path
-        && word.as_str() == "--progress"
-    {
-        progress = Progress::Shown;
-        path = args.next();
-    }
-    if args.next().is_some() {
-        eprintln!(rt; "usage: cftp [--progress] [FILE]")?;
-        return Ok(false);
-    }
-    match path {
-        Some(path) => on_file(rt, progress, path),
-        None => perform(rt, progress, BufReader::new(rt.alloc(), rt.stdin())?),
-    }
-}
-
-fn on_file(rt: &HostRuntime, progress: Progress, path: String) -> io::Result<bool> {
-    if path.as_str() == "--help" {
-        println!(rt; "{HELP}")?;
-        return Ok(true);
-    }
-    match fs::open(rt, path.as_str()) {
-        Ok(file) => perform(rt, progress, BufReader::new(rt.alloc(), file)?),
-        Err(error) => {
-            eprintln!(rt; "{path}: {error}")?;
-            Ok(false)
+impl fmt::Display for Failure {
+    fn fmt<W: fmt::Write>(&self, f: &mut fmt::Formatter<W>) -> fmt::Result {
+        match self {
+            Failure::Usage => write!(f, "usage: cftp [--progress] [FILE]"),
+            Failure::Unopened { path, error } => write!(f, "{path}: {error}"),
+            Failure::Stopped(stopped) => write!(f, "{stopped}"),
+            Failure::Io(error) => write!(f, "{error}"),
         }
     }
+}
+
+fn main(rt: HostRuntime) -> ExitCode {
+    match begin(&rt) {
+        Ok(()) => ExitCode::SUCCESS,
+        // Of these only the status tells.
+        Err(Failure::Io(_)) => ExitCode::FAILURE,
+        Err(failure) => {
+            let _ = eprintln!(rt; "{failure}");
+            ExitCode::FAILURE
+        }
+    }
+}
+
+fn begin(rt: &HostRuntime) -> Result<(), Failure> {
+    let mut args = env::args(rt)?.skip(1).peekable();
+    let progress = match args.next_if(|word| word.as_str() == "--progress") {
+        Some(_) => Progress::Shown,
+        None => Progress::Hidden,
+    };
+    let path = args.next();
+    if args.next().is_some() {
+        return Err(Failure::Usage);
+    }
+    match path {
+        None => perform(rt, progress, BufReader::new(rt.alloc(), rt.stdin())?),
+        Some(path) if path.as_str() == "--help" => Ok(println!(rt; "{HELP}")?),
+        Some(path) => perform(rt, progress, BufReader::new(rt.alloc(), opened(rt, path)?)?),
+    }
+}
+
+fn opened(rt: &HostRuntime, path: String) -> Result<File, Failure> {
+    fs::open(rt, path.as_str()).map_err(|error| Failure::Unopened { path, error })
 }
 
 fn perform<R: Read + Drop>(
     rt: &HostRuntime,
     progress: Progress,
     reader: BufReader<R>,
-) -> io::Result<bool> {
+) -> Result<(), Failure> {
     let mut lines = Lines::new(rt.alloc(), reader);
-    match carry_out_showing(rt, &mut lines, &mut rt.stdout(), progress) {
-        Ok(()) => Ok(true),
-        Err(trouble) => {
-            let stopped = Stopped {
-                line: lines.line_number(),
-                trouble,
-            };
-            eprintln!(rt; "{stopped}")?;
-            Ok(false)
-        }
-    }
+    carry_out_showing(rt, &mut lines, &mut rt.stdout(), progress).map_err(|trouble| {
+        Failure::Stopped(Stopped {
+            line: lines.line_number(),
+            trouble,
+        })
+    })
 }

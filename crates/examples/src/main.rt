@@ -8,9 +8,7 @@ mod say;
 mod states;
 mod words;
 
-use say::Failed;
-
-fn main(rt: HostRuntime) -> Result<(), Failed> {
+fn main(rt: HostRuntime) -> anyhow::Result<()> {
     proved::meets_at_the_third_window();
     words::show(&rt)?;
     rules::show(&rt)?;

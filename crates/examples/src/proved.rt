@@ -21,6 +21,7 @@ pub fn six_cells() -> [(u32, u32); 3]
 }
 
 // Two spins that follow one another: with the other down a spin goes down, with the other up it goes up. No window meets.
+#[tactic(auto, using(crate::proofs::Frozen::always_apart, crate::proofs::Frozen::faultless))]
 pub fn frozen_spins() -> Result<Spins, SpinsFault>
     ensures { MatchResult result (λ k. AlwaysApart (spins_meaning (spins_extent k) (spins_table k))) (λ _. ⊥) }
 {
@@ -31,6 +32,7 @@ pub fn frozen_spins() -> Result<Spins, SpinsFault>
 
 // One height that moves up, up and down: the runs from 0 and 2 are together after the second move, and the sample is
 // where they are at time zero. Does nothing; its promise is the example.
+#[tactic(auto, unfolding(coupling::specs::Windows::window_words))]
 pub fn meets_at_the_third_window()
     ensures { MeetsAtTheThird }
 {}

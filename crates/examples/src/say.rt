@@ -1,40 +1,13 @@
 // Printing an answer: accepted, or refused with the refusal's numbers.
+use anyhow::Context;
 use refusal::Cause;
-use std::alloc::{AllocError, AllocFailed};
-use std::io;
 use task::answers::numbers_line;
-
-#[derive(Debug, Drop)]
-pub enum Failed {
-    Memory,
-    Output(io::Error),
-    // An example was refused that is to be accepted.
-    Example,
-}
-
-impl From<AllocError> for Failed {
-    fn from(_error: AllocError) -> Failed {
-        Failed::Memory
-    }
-}
-
-impl<T: Drop> From<AllocFailed<T>> for Failed {
-    fn from(_error: AllocFailed<T>) -> Failed {
-        Failed::Memory
-    }
-}
-
-impl From<io::Error> for Failed {
-    fn from(error: io::Error) -> Failed {
-        Failed::Output(error)
-    }
-}
 
 pub fn say<T: Drop, E: Cause + Drop>(
     rt: &HostRuntime,
     what: &str,
     answer: Result<T, E>,
-) -> Result<(), Failed> {
+) -> anyhow::Result<()> {
     match answer {
         Ok(_) => println!(rt; "{what}: accepted")?,
         Err(cause) => say_refused(rt, what, &cause)?,
@@ -42,10 +15,15 @@ pub fn say<T: Drop, E: Cause + Drop>(
     Ok(())
 }
 
-pub fn say_refused<E: Cause>(rt: &HostRuntime, what: &str, cause: &E) -> Result<(), Failed> {
+pub fn say_refused<E: Cause>(rt: &HostRuntime, what: &str, cause: &E) -> anyhow::Result<()> {
     let mut numbers = Vec::new(rt.alloc());
     cause.tell(&mut numbers)?;
     let line = numbers_line(rt.alloc(), "refused", numbers.as_slice())?;
     println!(rt; "{what}: {line}")?;
     Ok(())
+}
+
+// What a call gives that is not to be refused.
+pub fn accepted<T, E: Drop>(answer: Result<T, E>) -> anyhow::Result<T> {
+    answer.ok().context("a call was refused")
 }

@@ -1,33 +1,22 @@
 // States: which belong to a rule, and loading cells.
-use crate::say::{Failed, say};
+use crate::say::{accepted, say};
 use lattice::kind::Kind;
 use spins::rule::Spins;
 use task::answers::numbers_line;
 
 const FLAT: [u64; 9] = [0; 9];
 
-pub fn show(rt: &HostRuntime) -> Result<(), Failed> {
-    let Ok(square) = Spins::from_numbers(2, 2, 1, FLAT) else {
-        return Err(Failed::Example);
-    };
-    let Ok(row) = Spins::from_numbers(1, 4, 1, FLAT) else {
-        return Err(Failed::Example);
-    };
+pub fn show(rt: &HostRuntime) -> anyhow::Result<()> {
+    let square = accepted(Spins::from_numbers(2, 2, 1, FLAT))?;
+    let row = accepted(Spins::from_numbers(1, 4, 1, FLAT))?;
     foreign(rt, &square, &row)?;
-    let Ok(rule) = Spins::from_numbers(2, 3, 1, FLAT) else {
-        return Err(Failed::Example);
-    };
-    loads(rt, &rule)
+    loads(rt, &accepted(Spins::from_numbers(2, 3, 1, FLAT))?)
 }
 
 // A state of the rule `other`, handed to `rule`.
-fn foreign<K: Kind>(rt: &HostRuntime, rule: &K, other: &K) -> Result<(), Failed> {
-    let Ok(mut own) = rule.new_state(rt.alloc()) else {
-        return Err(Failed::Memory);
-    };
-    let Ok(mut state) = other.new_state(rt.alloc()) else {
-        return Err(Failed::Memory);
-    };
+fn foreign<K: Kind>(rt: &HostRuntime, rule: &K, other: &K) -> anyhow::Result<()> {
+    let mut own = accepted(rule.new_state(rt.alloc()))?;
+    let mut state = accepted(other.new_state(rt.alloc()))?;
     say(rt, "bottom of a foreign state", rule.set_bottom(&mut state))?;
     say(rt, "top of a foreign state", rule.set_top(&mut state))?;
     say(rt, "word to a foreign state", rule.apply(&mut state, 0))?;
@@ -41,10 +30,8 @@ fn foreign<K: Kind>(rt: &HostRuntime, rule: &K, other: &K) -> Result<(), Failed>
 }
 
 // Six cells, of which one after the other is no spin.
-fn loads<K: Kind>(rt: &HostRuntime, rule: &K) -> Result<(), Failed> {
-    let Ok(mut state) = rule.new_state(rt.alloc()) else {
-        return Err(Failed::Memory);
-    };
+fn loads<K: Kind>(rt: &HostRuntime, rule: &K) -> anyhow::Result<()> {
+    let mut state = accepted(rule.new_state(rt.alloc()))?;
     say(rt, "six cells", rule.load(&mut state, &[1, 0, 1, 1, 0, 1]))?;
     say(
         rt,
@@ -57,18 +44,14 @@ fn loads<K: Kind>(rt: &HostRuntime, rule: &K) -> Result<(), Failed> {
         bytes[bad] = 2;
         say(rt, "a cell that is 2", rule.load(&mut state, &bytes))?;
     }
-    cells(rt, rule, &state)
+    say_cells(rt, rule, &state)
 }
 
-fn cells<K: Kind>(rt: &HostRuntime, rule: &K, state: &K::State) -> Result<(), Failed> {
-    let mut numbers = Vec::new(rt.alloc());
-    for cell in 0..6 {
-        match rule.cell(state, cell) {
-            Ok(value) => numbers.push(u64::from(value))?,
-            Err(_) => return Err(Failed::Example),
-        }
-    }
-    let line = numbers_line(rt.alloc(), "state", numbers.as_slice())?;
+fn say_cells<K: Kind>(rt: &HostRuntime, rule: &K, state: &K::State) -> anyhow::Result<()> {
+    let cells: Vec<u64> = (0..6)
+        .map(|cell| accepted(rule.cell(state, cell)).map(u64::from))
+        .try_collect(rt.alloc())?;
+    let line = numbers_line(rt.alloc(), "state", cells.as_slice())?;
     println!(rt; "{line}")?;
     Ok(())
 }

@@ -2,67 +2,36 @@
 // a place and the word there; tools/splitmix/Words.java makes such a file.
 #![tactic(auto)]
 
+use anyhow::{Context, ensure};
 use sources::counter::Counter;
 use sources::source::Source;
-use std::alloc::{AllocError, Global};
-use std::{fs, io};
+use std::alloc::Global;
+use std::fs;
 use task::numerals::{hex_bytes, number};
 use task::words::Words;
 
-#[derive(Debug, Drop)]
-enum Failed {
-    Memory,
-    Io(io::Error),
-    // A line is no seed, place and word.
-    Unreadable,
-    // A word is another than the generator's.
-    Differs,
-}
-
-impl From<AllocError> for Failed {
-    fn from(_error: AllocError) -> Failed {
-        Failed::Memory
-    }
-}
-
-impl From<io::Error> for Failed {
-    fn from(error: io::Error) -> Failed {
-        Failed::Io(error)
-    }
-}
-
-fn main(rt: HostRuntime) -> Result<(), Failed> {
+fn main(rt: HostRuntime) -> anyhow::Result<()> {
     let text = fs::read_to_string(&rt, "words.txt")?;
-    let mut count = 0u32;
     for line in text.lines() {
-        if !agrees(rt.alloc(), line.as_bytes())? {
-            return Err(Failed::Differs);
-        }
-        count = count.saturating_add(1);
+        ensure!(
+            agrees(rt.alloc(), line)?,
+            "the generator has another word: {line}"
+        );
     }
-    println!(rt; "{count} words agree")?;
+    println!(rt; "{} words agree", text.lines().count())?;
     Ok(())
 }
 
 // Whether the generator has the word of this line.
-fn agrees(heap: Global, line: &[u8]) -> Result<bool, Failed> {
-    let mut words = Words::new(line);
-    let (Some(seed), Some(place), Some(word)) = (
-        words.next_word(),
-        words.next_word(),
-        words.next_word(),
-    ) else {
-        return Err(Failed::Unreadable);
-    };
-    let (Some(seed), Some(place), Some(word)) = (
-        number(seed),
-        number(place),
-        hex_bytes(heap, word)?,
-    ) else {
-        return Err(Failed::Unreadable);
-    };
-    match Counter::new(seed).word(place) {
-        Ok(own) => Ok(own.to_be_bytes().as_slice() == word.as_slice()),
-        Err(_) => Err(Failed::Unreadable),
-    }
+fn agrees(heap: Global, line: &str) -> anyhow::Result<bool> {
+    let mut words = Words::new(line.as_bytes());
+    let seed = words.next_word().and_then(number).context("no seed")?;
+    let place = words.next_word().and_then(number).context("no place")?;
+    let digits = words.next_word().context("no word")?;
+    let word = hex_bytes(heap, digits)?.context("no word in hex")?;
+    let own = Counter::new(seed)
+        .word(place)
+        .ok()
+        .context("no such place")?;
+    Ok(own.to_be_bytes().as_slice() == word.as_slice())
 }

@@ -14,7 +14,7 @@ fn main(rt: HostRuntime) -> io::Result<()> {
         let task = fs::read(&rt, format!(in rt.alloc(); "{name}.task")?)?;
         let expected = fs::read(&rt, format!(in rt.alloc(); "{name}.out")?)?;
         let told = answers(&rt, task.as_slice())?;
-        if told.as_slice() == expected.as_slice() {
+        if told == expected {
             println!(rt; "{name}: as expected")?;
         } else {
             println!(rt; "{name}: differs")?;
