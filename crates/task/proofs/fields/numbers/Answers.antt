@@ -5,11 +5,6 @@ use Rattle.task.specs.Text.{left, words}
 use Rattle.task.proofs.Steps.{behind, behind_none, behind_more, behind_stops, behind_all}
 use Rattle.task.proofs.fields.numbers.Goals as goal
 
-pub loop-slot-init : goal.loop-slot-init
-loop-slot-init g c =
-    let whole : g.row.N - 0 ≡ g.row.N = omega arith in
-    (length-replicate g.row.N 0, rw whole (behind_none g.row.N (words (left c.args.rest))))
-
 pub returns-in_err-slot : goal.returns-in_err-slot
 returns-in_err-slot g c =
     let p = err_from_is_err_and c.from_residual.result c.from_residual.ensures.1 in
