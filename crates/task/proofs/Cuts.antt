@@ -40,11 +40,3 @@ pub a_word : (bs : List ℕ) → 0 < length (take_while solid (past blank bs)) �
 a_word bs more =
     let h = step (past blank bs) in
     sym (words_past bs) ∙ ap (filter some) h.1 ∙ kept (take_while solid (past blank bs)) h.0 more ∙ ap (λ ws. take_while solid (past blank bs) ∷ ws) h.2
-
--- The word and what is left, as a cut at the first blank behind the leading ones gives them.
-module _ (bs text : List ℕ) (n : ℕ) (from : text ≡ past blank bs) (to : n ≡ prefix_len solid text) where
-  pub word_is : (w : List ℕ) → w ≡ take n text → w ≡ take_while solid (past blank bs)
-  word_is w e = cc
-
-  pub rest_is : (rest : List ℕ) → rest ≡ drop n text → rest ≡ after_word bs
-  rest_is rest e = let h = drop_leading solid text in cc
