@@ -1,5 +1,5 @@
 -- One word cut from the front of a text.
-use Rattle.std.proofs.Common.{◌≡◌, ℕ, ◌+◌, ◌<◌, Bool, true, false, cond, List, [], ◌∷◌, length, take, drop, filter, sym, refl, ap, ◌∙◌, inl, inr, one-add, arith}
+use Rattle.std.proofs.Common.{◌≡◌, ℕ, ◌+◌, ◌<◌, Bool, true, false, cond, List, [], ◌∷◌, length, drop, filter, sym, refl, ap, ◌∙◌, inl, inr, one-add, arith}
 use Rattle.std.proofs.lemmas.Bool.{cases_Bool}
 use Rattle.std.specs.List.{prefix_len, take_while}
 use Rattle.task.specs.Text.{blank, solid, past, pieces, some, words, after_word}
@@ -25,7 +25,7 @@ none_left [] none = refl
 none_left (b ∷ bs) none =
     elim (cases_Bool (blank b)) [
       | inl e ↦ simp e (none_left bs (simp e at none))
-      | inr e ↦ let h : b ∷ take_while solid bs ≡ [] = simp (e, one-add) at none in let z : ◌≡◌ {A = ℕ} 0 1 = cc in absurd (omega arith)
+      | inr e ↦ cc (simp (e, one-add) at none)
     ]
 
 kept : (w : List ℕ) (ps : List (List ℕ)) → 0 < length w → filter some (w ∷ ps) ≡ w ∷ filter some ps
