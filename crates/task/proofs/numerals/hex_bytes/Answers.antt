@@ -1,4 +1,4 @@
-use Rattle.std.proofs.Common.{rules, ◌≡◌, ℕ, List, vec_items, false, length, ◌/◌, take, drop, ◌++◌, codes, ap, ◌∙◌, arith}
+use Rattle.std.proofs.Common.{rules, ◌≡◌, vec_items, false, length, ◌/◌, take, drop, ◌++◌, codes, ap, ◌∙◌, arith}
 use Rattle.std.proofs.Math.Seq.{take-append_seam}
 use Rattle.std.specs.Str.{bytes_eq}
 use Rattle.task.proofs.Hex.{bytes_kept, bytes_read}
