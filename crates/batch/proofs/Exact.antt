@@ -6,7 +6,7 @@ use Rattle.coupling.specs.Windows.{CanFill, window_words}
 use Rattle.lattice.specs.Kind.{Bounded, Closed, Monotone, Ordered}
 use Rattle.sources.specs.Sources.{Sound}
 use Rattle.batch.specs.Histories.{Has}
-use Rattle.batch.specs.Machine.{Draw, Machine}
+use Rattle.batch.specs.Machine.{Machine}
 use Rattle.batch.specs.Promises.{HoldsInEveryHistory}
 use Rattle.batch.specs.Samples.{AgreeingHistoriesSampleAlike, AnswersAreExact, with_source}
 use Rattle.batch.specs.Tries.{Setting}

@@ -1,10 +1,10 @@
 -- What a request that was answered met or apart has found, and that no request changes the stretch.
-use Rattle.std.proofs.Common.{◌≡◌, ℕ, ◌≤◌, Bool, true, false, ltb, ◌⊎◌, List, sym, refl, ap, ◌∙◌, subst, inl, inr, ⊎_elim, arith}
+use Rattle.std.proofs.Common.{◌≡◌, ℕ, ◌≤◌, Bool, true, false, ltb, ◌⊎◌, List, sym, refl, ap, ◌∙◌, inl, inr, ⊎_elim, arith}
 use Rattle.std.proofs.lemmas.Bool.{both_ways, cases_Bool}
 use Rattle.coupling.proofs.Filled.{window_is_words}
 use Rattle.coupling.proofs.Samples.{larger_windows}
 use Rattle.coupling.proofs.Sandwich.{apart_where_some_differ, meets_where_all_end}
-use Rattle.coupling.specs.Ends.{AllEndIn, SomeEndApart}
+use Rattle.coupling.specs.Ends.{AllEndIn}
 use Rattle.coupling.specs.Lead.{Ends, apart_at, met_in, outcome}
 use Rattle.coupling.specs.Windows.{CanFill}
 use Rattle.lattice.specs.Faults.{state_refusal}

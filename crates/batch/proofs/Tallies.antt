@@ -6,7 +6,7 @@ use Rattle.refusal.specs.Refusals.{Refusal, given, provided, refused}
 use Rattle.batch.specs.Histories.{Event, event}
 use Rattle.batch.specs.Machine.{Draw, Machine, Out, drawn, left_after, met_draw, new_answer, new_machine, none, one_closed, one_given_up, one_opened, open_draw, with_out}
 use Rattle.batch.specs.Ends.{Two}
-use Rattle.batch.specs.Requests.{CarriesByDraw, Response, states_kept, reported, said_apart, said_closed, said_given_up, said_met, said_misplaced, said_open, said_opened, said_refused, response}
+use Rattle.batch.specs.Requests.{CarriesByDraw, Response, states_kept, reported, said_apart, said_closed, said_given_up, said_met, said_misplaced, said_open, said_opened, response}
 use Rattle.batch.specs.Tallies.{Counted, Tallies, greatest_tried, larger_of, since_open}
 use Rattle.batch.specs.Tries.{Setting, ends_report, report_of, tried_to, try_report, words_of_try, with_two}
 use Rattle.batch.specs.declared.stage.Request.{Request}
