@@ -22,7 +22,7 @@ use Rattle.batch.specs.Tallies.{window_of}
 use Rattle.batch.specs.Histories.{Event, event, is_tried}
 use Rattle.batch.specs.Tries.{Report, Setting, DrawAndStates, ends_report, owned, refused_report, report_of, tried_to, try_report, words_of_try, with_two}
 use Rattle.batch.specs.declared.stage.Request.{Request}
-use Rattle.batch.specs.declared.stage.Request.TheVariants.{Open, Try, Run, Close, GiveUp}
+use Rattle.batch.specs.declared.stage.Request.TheVariants.{Open, Try, Run, Close}
 use Rattle.batch.proofs.Accepted.{accepted_report, accepted_when, which}
 
 abbrev pub Exact : Setting → ℕ → Event → Type 0
@@ -103,20 +103,10 @@ module _ (s : Setting) (ordered : Ordered s.rule) (bounded : Bounded s.rule) (cl
 
   pub carried_exact : (t : Two) (m : Machine) (o : Out) (q : Request) (sc : Response) → CarriesByDraw s t m o q sc → Exact s m.stretch (event q t sc)
   carried_exact t m none Open sc is = beside Open m.stretch sc _ _ t (no_try_in_open (open_answer m)) is
-  carried_exact t m none (Try T) sc is = beside (Try T) m.stretch sc _ _ t refl is
-  carried_exact t m none Run sc is = beside Run m.stretch sc _ _ t refl is
-  carried_exact t m none Close sc is = beside Close m.stretch sc _ _ t refl is
-  carried_exact t m none GiveUp sc is = beside GiveUp m.stretch sc _ _ t refl is
-  carried_exact t m (open_draw d) Open sc is = beside Open m.stretch sc _ _ t refl is
   carried_exact t m (open_draw d) (Try T) sc is = try_exact (Try T) t m (with_two d t) T sc (λ U e. ap window_of e) is
   carried_exact t m (open_draw d) Run sc h = run_exact t m (with_two d t) h.0 sc h.1 h.2
-  carried_exact t m (open_draw d) Close sc is = beside Close m.stretch sc _ _ t refl is
-  carried_exact t m (open_draw d) GiveUp sc is = beside GiveUp m.stretch sc _ _ t refl is
-  carried_exact t m (met_draw d) Open sc is = beside Open m.stretch sc _ _ t refl is
-  carried_exact t m (met_draw d) (Try T) sc is = beside (Try T) m.stretch sc _ _ t refl is
-  carried_exact t m (met_draw d) Run sc is = beside Run m.stretch sc _ _ t refl is
   carried_exact t m (met_draw d) Close sc is = beside Close m.stretch sc _ _ t refl is
-  carried_exact t m (met_draw d) GiveUp sc is = beside GiveUp m.stretch sc _ _ t refl is
+  carried_exact t m o q sc is = beside q m.stretch sc _ _ t refl is
 
 ends_stretch : (m : Machine) (d : Draw) (T : ℕ) (ends : Ends) → (ends_report m d T ends).machine.stretch ≡ m.stretch
 ends_stretch m d T (met_in y) = refl
@@ -143,17 +133,7 @@ open_stretch m false c = refl
 -- no request changes the stretch
 pub carried_stretch : (s : Setting) (t : Two) (m : Machine) (o : Out) (q : Request) (sc : Response) → CarriesByDraw s t m o q sc → sc.machine.stretch ≡ m.stretch
 carried_stretch s t m none Open sc is = ap (λ (x : Response). x.machine.stretch) is ∙ open_stretch m _ _
-carried_stretch s t m none (Try T) sc is = rw is
-carried_stretch s t m none Run sc is = rw is
-carried_stretch s t m none Close sc is = rw is
-carried_stretch s t m none GiveUp sc is = rw is
-carried_stretch s t m (open_draw d) Open sc is = rw is
 carried_stretch s t m (open_draw d) (Try T) sc is = ap (λ (x : Response). x.machine.stretch) is ∙ try_stretch s m (with_two d t) T
 carried_stretch s t m (open_draw d) Run sc h = ap (λ (x : Response). x.machine.stretch) h.2 ∙ run_stretch s m (with_two d t) h.0 h.1
-carried_stretch s t m (open_draw d) Close sc is = rw is
-carried_stretch s t m (open_draw d) GiveUp sc is = rw is
-carried_stretch s t m (met_draw d) Open sc is = rw is
-carried_stretch s t m (met_draw d) (Try T) sc is = rw is
-carried_stretch s t m (met_draw d) Run sc is = rw is
 carried_stretch s t m (met_draw d) Close sc is = rw is
-carried_stretch s t m (met_draw d) GiveUp sc is = rw is
+carried_stretch s t m o q sc is = rw is

@@ -114,24 +114,14 @@ try_step s t es m d T sc is_open is h =
     (which (words_of_try s m st T))
 
 abbrev pub is_run : Request → Bool
-is_run Open = false
-is_run (Try T) = false
 is_run Run = true
-is_run Close = false
-is_run GiveUp = false
+is_run _ = false
 
 -- a request that is no run
 pub tally_step : (s : Setting) (t : Two) (es : List Event) (m : Machine) (o : Out) (q : Request) (sc : Response) → m.out ≡ o → is_run q ≡ false → CarriesByDraw s t m o q sc → Tallies es m → With q t es sc
 tally_step s t es m o Run sc out plain carries h = absurd (false≢true (sym plain))
 tally_step s t es m none Open sc out plain is h = open_step t es m _ _ sc out is h
-tally_step s t es m none (Try T) sc out plain is h = misplaced_step (Try T) t es m sc is h
-tally_step s t es m none Close sc out plain is h = misplaced_step Close t es m sc is h
-tally_step s t es m none GiveUp sc out plain is h = misplaced_step GiveUp t es m sc is h
-tally_step s t es m (open_draw d) Open sc out plain is h = misplaced_step Open t es m sc is h
 tally_step s t es m (open_draw d) (Try T) sc out plain is h = try_step s t es m d T sc out is h
-tally_step s t es m (open_draw d) Close sc out plain is h = misplaced_step Close t es m sc is h
 tally_step s t es m (open_draw d) GiveUp sc out plain is h = subst (With GiveUp t es) (sym is) (given_up_adds t _ _ _ es m d out h)
-tally_step s t es m (met_draw d) Open sc out plain is h = misplaced_step Open t es m sc is h
-tally_step s t es m (met_draw d) (Try T) sc out plain is h = misplaced_step (Try T) t es m sc is h
 tally_step s t es m (met_draw d) Close sc out plain is h = subst (With Close t es) (sym is) (closed_adds t _ _ _ es m d out h)
-tally_step s t es m (met_draw d) GiveUp sc out plain is h = misplaced_step GiveUp t es m sc is h
+tally_step s t es m o q sc out plain is h = misplaced_step q t es m sc is h
