@@ -1,14 +1,22 @@
 -- How a run goes from window to window, and where it ends.
-use Rattle.std.proofs.Common.{◌≡◌, ℕ, ◌+◌, ◌^◌, ◌<◌, ◌≤◌, false, ◌⊎◌, sym, refl, ap, ◌∙◌, subst, inl, inr, arith}
+use Rattle.std.proofs.Common.{true, ◌≡◌, ℕ, ◌+◌, ◌^◌, ◌<◌, ◌≤◌, false, ◌⊎◌, sym, refl, ap, ◌∙◌, subst, inl, inr, arith, ◌&&◌, ltb}
 use Rattle.std.proofs.Math.Pow.{pow_mono}
 use Rattle.std.proofs.lemmas.Nat.{pow_below}
-use Rattle.std.proofs.lemmas.Bool.{and_from, both_ways, cases_Bool, cases_lt, le-leb, le-ltb, lt-ltb}
+use Rattle.std.proofs.lemmas.Bool.{and_from, both_ways, cases_Bool, cases_lt, le-leb, le-ltb, lt-ltb, and_parts, ltb-true}
 use Rattle.coupling.specs.Windows.{CanFill}
 use Rattle.refusal.specs.Refusals.{given}
 use Rattle.batch.specs.Machine.{Machine}
 use Rattle.batch.specs.Runs.{AnswersApart, ComesTo, Doubled, LeftBefore, RunReports, after_apart, left_apart}
 use Rattle.batch.specs.Tries.{Report, Setting, DrawAndStates, owned, try_report}
 use Rattle.batch.proofs.Accepted.{Accepted, answered, same_report}
+
+-- whether b is larger than a and below c
+pub between : (a b c : ℕ) → (((ltb a b && ltb b c) ≡ true) × (a < b) × (b < c)) ⊎ (((ltb a b && ltb b c) ≡ false) × (a < b → b < c → ⊥))
+between a b c =
+    elim (cases_Bool (ltb a b && ltb b c)) [
+      | inl t ↦ let parts = and_parts _ _ t in inl (t, ltb-true _ _ parts.0, ltb-true _ _ parts.1)
+      | inr t ↦ inr (t, λ larger below. both_ways _ t (and_from _ _ (lt-ltb _ _ larger) (lt-ltb _ _ below)))
+    ]
 
 -- between a power of two and the next there is none
 pub next_power : (k U j : ℕ) → U ≡ 2 ^ j → U < 2 ^ (k + 1) → (U < 2 ^ k) ⊎ (U ≡ 2 ^ k)

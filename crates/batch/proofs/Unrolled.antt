@@ -1,7 +1,7 @@
 -- A run as its tries.
-use Rattle.std.proofs.Common.{◌≡◌, ℕ, zero, suc, ◌+◌, ◌^◌, ◌<◌, ◌≤◌, false, ◌&&◌, ltb, ◌⊎◌, List, [], ◌∷◌, ◌++◌, sym, refl, ap, ◌∙◌, subst, inl, inr, arith}
+use Rattle.std.proofs.Common.{◌≡◌, ℕ, zero, suc, ◌+◌, ◌^◌, ◌<◌, ◌≤◌, false, ltb, ◌⊎◌, List, [], ◌∷◌, ◌++◌, sym, refl, ap, ◌∙◌, subst, inl, inr, arith}
 use Rattle.std.proofs.lemmas.Nat.{pow_below}
-use Rattle.std.proofs.lemmas.Bool.{and_from, and_parts, both_ways, cases_Bool, le-leb, lt-ltb, ltb-true}
+use Rattle.std.proofs.lemmas.Bool.{and_from, both_ways, cases_Bool, le-leb, lt-ltb}
 use Rattle.coupling.specs.Windows.{CanFill}
 use Rattle.lattice.specs.Faults.{state_refusal}
 use Rattle.lattice.specs.declared.fault.StateFault.TheVariants.{Foreign}
@@ -14,7 +14,7 @@ use Rattle.batch.specs.Tallies.{DoubledTries, Tallies, TriesOfRun}
 use Rattle.batch.specs.Tries.{Report, Setting, DrawAndStates, owned, refused_report, try_report}
 use Rattle.batch.specs.declared.stage.Request.TheVariants.{Try}
 use Rattle.batch.proofs.Accepted.{Accepted, answered, apart_machine, same_report}
-use Rattle.batch.proofs.Runs.{goes_on, next_power, not_doubled, number_kept, own_kept, passes, starts, to_stretch, tried_up}
+use Rattle.batch.proofs.Runs.{goes_on, next_power, not_doubled, number_kept, own_kept, passes, starts, to_stretch, tried_up, between}
 use Rattle.batch.proofs.Tallies.{same_out, try_step}
 
 -- what was left before a window is one thing
@@ -121,13 +121,9 @@ module _ (s : Setting) (m : Machine) (st : DrawAndStates) (gs : List Event) wher
       let c = climb_to k is_open history tallies (λ U doubled under. apart U doubled (omega (arith, under, up))) in
       let more : k + 1 ≡ suc k = omega arith in
       subst Climbed more
-      (elim (cases_Bool (ltb c.now.draw.tried (2 ^ k) && ltb (2 ^ k) m.stretch)) [
-        | inl t ↦ let parts = and_parts _ _ t in
-            let larger = ltb-true _ _ parts.0 in
-            let below = ltb-true _ _ parts.1 in
-            let doubled : Doubled m.stretch st.draw.tried (2 ^ k) = record { larger = omega (arith, tried_up s m st (2 ^ k) c.now c.comes.left, larger); below = below; power = (k, refl) } in
-            another k c larger below (apart (2 ^ k) doubled up)
-        | inr t ↦ skipped k c (λ larger below. both_ways _ t (and_from _ _ (lt-ltb _ _ larger) (lt-ltb _ _ below)))
+      (elim (between c.now.draw.tried (2 ^ k) m.stretch) [
+        | inl t ↦ another k c t.1 t.2 (apart (2 ^ k) (record { larger = omega (arith, tried_up s m st (2 ^ k) c.now c.comes.left, t.1); below = t.2; power = (k, refl) }) up)
+        | inr t ↦ skipped k c t.1
       ])
 
   -- a run's tries lead where it does
@@ -174,15 +170,14 @@ module _ (s : Setting) (m : Machine) (st : DrawAndStates) (gs : List Event) wher
   least zero = inl (λ U doubled under. omega (arith, doubled.larger, under))
   least (suc k) =
       elim (least k) [
-        | inl none ↦ elim (cases_Bool (ltb st.draw.tried (2 ^ k) && ltb (2 ^ k) m.stretch)) [
-          | inl t ↦ let parts = and_parts _ _ t in
-              inr (2 ^ k, record { larger = ltb-true _ _ parts.0; below = ltb-true _ _ parts.1; power = (k, refl) }, none)
+        | inl none ↦ elim (between st.draw.tried (2 ^ k) m.stretch) [
+          | inl t ↦ inr (2 ^ k, record { larger = t.1; below = t.2; power = (k, refl) }, none)
           | inr t ↦ let more : suc k ≡ k + 1 = omega arith in
               inl
               (λ U doubled under.
               elim (next_power k U doubled.power.0 doubled.power.1 (subst (λ (n : ℕ). U < 2 ^ n) more under)) [
                 | inl less ↦ none U doubled less
-                | inr is ↦ let here = subst (Doubled m.stretch st.draw.tried) is doubled in both_ways _ t (and_from _ _ (lt-ltb _ _ here.larger) (lt-ltb _ _ here.below))
+                | inr is ↦ let here = subst (Doubled m.stretch st.draw.tried) is doubled in t.1 here.larger here.below
               ])
         ]
         | inr h ↦ inr h
