@@ -10,7 +10,7 @@ use Rattle.batch.specs.Tries.{Report, Setting, DrawAndStates, try_report, with_t
 use Rattle.batch.specs.declared.draws.Batch.{Batch}
 use Rattle.batch.specs.declared.draws.OpenDraw.{OpenDraw}
 use Rattle.batch.proofs.Accepted.{apart_machine}
-use Rattle.batch.proofs.Runs.{ends_early, ends_last, goes_on, passes, between}
+use Rattle.batch.proofs.Runs.{between, ends_early, ends_last, goes_on, passes}
 
 same_draw : (d e : Draw) → open_draw d ≡ open_draw e → d ≡ e
 same_draw d e same = cc

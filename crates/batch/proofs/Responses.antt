@@ -1,6 +1,6 @@
 -- What a request that was answered met or apart has found, and that no request changes the stretch.
 use Rattle.std.proofs.Common.{◌≡◌, ℕ, ◌≤◌, Bool, true, false, ltb, ◌⊎◌, List, sym, refl, ap, ◌∙◌, inl, inr, arith}
-use Rattle.std.proofs.lemmas.Bool.{both_ways, cases_Bool}
+use Rattle.std.proofs.lemmas.Bool.{cases_Bool}
 use Rattle.coupling.proofs.Filled.{window_is_words}
 use Rattle.coupling.proofs.Samples.{larger_windows}
 use Rattle.coupling.proofs.Sandwich.{apart_where_some_differ, meets_where_all_end}
@@ -33,7 +33,7 @@ Exact s stretch e =
 
 -- an answer that is none of a try
 pub quiet : (s : Setting) (stretch : ℕ) (e : Event) → is_tried e.response.said ≡ false → Exact s stretch e
-quiet s stretch e untried = (λ met. absurd (both_ways _ untried (ap is_tried met)), λ apart. absurd (both_ways _ untried (ap is_tried apart)), λ tried. absurd (both_ways _ untried tried))
+quiet s stretch e untried = (λ met. cc, λ apart. cc, λ tried. cc)
 
 -- a run reports as a try does, or is refused
 pub run_report : (s : Setting) (m : Machine) (st : DrawAndStates) (report : Report) → RunReports s m st report → ((now : DrawAndStates) × (T : ℕ) × (report ≡ try_report s m now T)) ⊎ ((c : Refusal) × (report ≡ refused_report m st c))

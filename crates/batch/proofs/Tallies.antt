@@ -1,6 +1,6 @@
 -- The counts of a batch, along every history without runs.
 use Rattle.std.proofs.Common.{◌≡◌, ℕ, ◌+◌, ◌<◌, Bool, true, false, List, [], ◌∷◌, Some, sym, refl, ap, ◌∙◌, subst, inl, inr, arith, rules}
-use Rattle.std.proofs.lemmas.Bool.{false≢true, lt-ltb}
+use Rattle.std.proofs.lemmas.Bool.{lt-ltb}
 use Rattle.coupling.specs.Lead.{Ends, apart_at, met_in, outcome}
 use Rattle.refusal.specs.Refusals.{Refusal, given, provided}
 use Rattle.batch.specs.Histories.{Event, event}
@@ -117,7 +117,7 @@ is_run _ = false
 
 -- a request that is no run
 pub tally_step : (s : Setting) (t : Two) (es : List Event) (m : Machine) (o : Out) (q : Request) (sc : Response) → m.out ≡ o → is_run q ≡ false → CarriesByDraw s t m o q sc → Tallies es m → With q t es sc
-tally_step s t es m o Run sc out plain carries h = absurd (false≢true (sym plain))
+tally_step s t es m o Run sc out plain carries h = cc
 tally_step s t es m none Open sc out plain is h = open_step t es m _ _ sc out is h
 tally_step s t es m (open_draw d) (Try T) sc out plain is h = try_step s t es m d T sc out is h
 tally_step s t es m (open_draw d) GiveUp sc out plain is h = subst (With GiveUp t es) (sym is) (given_up_adds t _ _ _ es m d out h)

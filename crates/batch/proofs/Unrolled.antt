@@ -14,7 +14,7 @@ use Rattle.batch.specs.Tallies.{DoubledTries, Tallies, TriesOfRun}
 use Rattle.batch.specs.Tries.{Report, Setting, DrawAndStates, owned, refused_report, try_report}
 use Rattle.batch.specs.declared.stage.Request.TheVariants.{Try}
 use Rattle.batch.proofs.Accepted.{Accepted, answered, apart_machine, same_report}
-use Rattle.batch.proofs.Runs.{goes_on, next_power, not_doubled, number_kept, own_kept, passes, starts, to_stretch, tried_up, between}
+use Rattle.batch.proofs.Runs.{between, goes_on, next_power, not_doubled, number_kept, own_kept, passes, starts, to_stretch, tried_up}
 use Rattle.batch.proofs.Tallies.{same_out, try_step}
 
 -- what was left before a window is one thing
