@@ -1,12 +1,12 @@
 -- The counts of a batch, along every history without runs.
-use Rattle.std.proofs.Common.{◌≡◌, ℕ, ◌+◌, ◌<◌, Bool, true, false, List, [], ◌∷◌, Some, sym, refl, ap, ◌∙◌, subst, ⊎_elim, arith, rules}
-use Rattle.std.proofs.lemmas.Bool.{false≢true, lt-ltb}
+use Rattle.std.proofs.Common.{◌≡◌, ℕ, ◌+◌, ◌<◌, Bool, true, false, List, [], ◌∷◌, Some, sym, refl, ap, ◌∙◌, subst, inl, inr, arith, rules}
+use Rattle.std.proofs.lemmas.Bool.{lt-ltb}
 use Rattle.coupling.specs.Lead.{Ends, apart_at, met_in, outcome}
-use Rattle.refusal.specs.Refusals.{Refusal, given, provided, refused}
+use Rattle.refusal.specs.Refusals.{Refusal, given, provided}
 use Rattle.batch.specs.Histories.{Event, event}
 use Rattle.batch.specs.Machine.{Draw, Machine, Out, drawn, left_after, met_draw, new_answer, new_machine, none, one_closed, one_given_up, one_opened, open_draw, with_out}
 use Rattle.batch.specs.Ends.{Two}
-use Rattle.batch.specs.Requests.{CarriesByDraw, Response, states_kept, reported, said_apart, said_closed, said_given_up, said_met, said_misplaced, said_open, said_opened, said_refused, response}
+use Rattle.batch.specs.Requests.{CarriesByDraw, Response, states_kept, reported, said_apart, said_closed, said_given_up, said_met, said_misplaced, said_open, said_opened, response}
 use Rattle.batch.specs.Tallies.{Counted, Tallies, greatest_tried, larger_of, since_open}
 use Rattle.batch.specs.Tries.{Setting, ends_report, report_of, tried_to, try_report, words_of_try, with_two}
 use Rattle.batch.specs.declared.stage.Request.{Request}
@@ -103,35 +103,23 @@ same_out m o e = ap (with_out m) e
 pub try_step : (s : Setting) (t : Two) (es : List Event) (m : Machine) (d : Draw) (T : ℕ) (sc : Response) → m.out ≡ open_draw d → sc ≡ reported (try_report s m (with_two d t) T) → Tallies es m → With (Try T) t es sc
 try_step s t es m d T sc is_open is h =
     let st = with_two d t in
-    ⊎_elim
-    (λ (w : (ws : List ℕ) × (given ws ≡ words_of_try s m st T)).
-    let report = ap (report_of s m st T) (sym w.1) in
-    subst (With (Try T) t es) (sym (is ∙ ap reported report)) (ends_step t es m d T (outcome s.rule w.0) is_open (accepted_when s m st T w.0 w.1).0.larger h))
-    (λ (w : (c : Refusal) × (refused c ≡ words_of_try s m st T)).
-    let report = ap (report_of s m st T) (sym w.1) in
-    let same = subst (Tallies es) (same_out m (open_draw d) is_open) h in
-    subst (With (Try T) t es) (sym (is ∙ ap reported report)) (search rules))
-    (which (words_of_try s m st T))
+    elim (which (words_of_try s m st T)) [
+      | inl w ↦ let report = ap (report_of s m st T) (sym w.1) in
+          subst (With (Try T) t es) (sym (is ∙ ap reported report)) (ends_step t es m d T (outcome s.rule w.0) is_open (accepted_when s m st T w.0 w.1).0.larger h)
+      | inr w ↦ let report = ap (report_of s m st T) (sym w.1) in
+          let same = subst (Tallies es) (same_out m (open_draw d) is_open) h in
+          subst (With (Try T) t es) (sym (is ∙ ap reported report)) (search rules)
+    ]
 
 abbrev pub is_run : Request → Bool
-is_run Open = false
-is_run (Try T) = false
 is_run Run = true
-is_run Close = false
-is_run GiveUp = false
+is_run _ = false
 
 -- a request that is no run
 pub tally_step : (s : Setting) (t : Two) (es : List Event) (m : Machine) (o : Out) (q : Request) (sc : Response) → m.out ≡ o → is_run q ≡ false → CarriesByDraw s t m o q sc → Tallies es m → With q t es sc
-tally_step s t es m o Run sc out plain carries h = absurd (false≢true (sym plain))
+tally_step s t es m o Run sc out plain carries h = cc
 tally_step s t es m none Open sc out plain is h = open_step t es m _ _ sc out is h
-tally_step s t es m none (Try T) sc out plain is h = misplaced_step (Try T) t es m sc is h
-tally_step s t es m none Close sc out plain is h = misplaced_step Close t es m sc is h
-tally_step s t es m none GiveUp sc out plain is h = misplaced_step GiveUp t es m sc is h
-tally_step s t es m (open_draw d) Open sc out plain is h = misplaced_step Open t es m sc is h
 tally_step s t es m (open_draw d) (Try T) sc out plain is h = try_step s t es m d T sc out is h
-tally_step s t es m (open_draw d) Close sc out plain is h = misplaced_step Close t es m sc is h
 tally_step s t es m (open_draw d) GiveUp sc out plain is h = subst (With GiveUp t es) (sym is) (given_up_adds t _ _ _ es m d out h)
-tally_step s t es m (met_draw d) Open sc out plain is h = misplaced_step Open t es m sc is h
-tally_step s t es m (met_draw d) (Try T) sc out plain is h = misplaced_step (Try T) t es m sc is h
 tally_step s t es m (met_draw d) Close sc out plain is h = subst (With Close t es) (sym is) (closed_adds t _ _ _ es m d out h)
-tally_step s t es m (met_draw d) GiveUp sc out plain is h = misplaced_step GiveUp t es m sc is h
+tally_step s t es m o q sc out plain is h = misplaced_step q t es m sc is h
