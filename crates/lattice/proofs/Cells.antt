@@ -1,9 +1,24 @@
 -- Lists of cells whose values keep below a bound, and the order cell by cell.
-use Rattle.std.proofs.Common.{◌≡◌, ℕ, zero, suc, ◌-◌, ◌<◌, ◌≤◌, List, [], ◌∷◌, ◌++◌, length, get_or, take, set, replicate, sym, ap, ◌∙◌, arith}
-use Rattle.std.specs.List.{AllByRecursion}
-use Rattle.std.proofs.lemmas.List.{ext_get_or, get_or-take, length-append, length-replicate, length-take-le}
+use Rattle.std.proofs.Common.{◌≡◌, ℕ, zero, suc, ◌-◌, ◌<◌, ◌≤◌, true, false, ltb, Some, List, [], ◌∷◌, ◌++◌, length, get_or, take, set, replicate, sym, ap, ◌∙◌, ⊎_elim, arith}
+use Rattle.std.specs.List.{AllByRecursion, position, position_or_len}
+use Rattle.std.proofs.lemmas.Bool.{cases_Bool, cases_lt, cond-true, ltb-false}
+use Rattle.std.proofs.lemmas.List.Sums.{fails_before_first}
+use Rattle.std.proofs.lemmas.List.{ext_get_or, get_or-take, get_or_past, length-append, length-replicate, length-take-le}
 use Rattle.std.proofs.ByRecursion.{All-from_get_or}
 use Rattle.lattice.specs.Orders.{cellwise}
+
+-- where no value is found above the bound
+pub none_above : (x : List ℕ) (b : ℕ) → ((i : ℕ) → position (ltb b) x ≡ Some i → ⊥) → (k : ℕ) → get_or x k 0 ≤ b
+none_above x b none k =
+    let first = position_or_len (ltb b) x in
+    ⊎_elim
+    (λ (found : ltb first (length x) ≡ true). absurd (none first (cond-true _ _ _ found)))
+    (λ (not_found : ltb first (length x) ≡ false).
+    ⊎_elim
+    (λ (h : k < length x). ltb-false b (get_or x k 0) (fails_before_first (ltb b) x k 0 (let far = ltb-false first (length x) not_found in omega arith)))
+    (λ (h : length x ≤ k). rw (get_or_past x k 0 h) (omega arith))
+    (cases_lt k (length x)))
+    (cases_Bool (ltb first (length x)))
 
 pub replicate_upto : (n v b i : ℕ) → v ≤ b → get_or (replicate n v) i 0 ≤ b
 replicate_upto zero v b i h = omega arith

@@ -16,6 +16,13 @@ cell_answer rule state cells i =
     (provided (nat_lt i (cell_count rule)) (state_refusal NoCell)
     (given (slice_index cells i)))
 
+-- The bytes that loading reads: one for each cell, from the first on.
+abbrev pub read_answer : (rule state : Extent) → List ℕ → Answer (List ℕ)
+read_answer rule state bytes =
+    provided (agree rule state) (state_refusal Foreign)
+    (provided (nat_le (cell_count rule) (length bytes)) (state_refusal FewCells)
+    (given (take (cell_count rule) bytes)))
+
 -- Two states are equal when their lists of cells are.
 abbrev pub TellsEqual : List ℕ → List ℕ → Answer Bool → Type 0
 TellsEqual x y (given t) = Decides t (x ≡ y)

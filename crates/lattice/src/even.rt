@@ -4,7 +4,6 @@ ghost use Rattle.lattice.specs.Counts.{Exchanges};
 use crate::kind::Kind;
 
 pub trait Even: Kind {
-    // Does nothing: its promise, the exchange law, is for the proofs of what calls it.
-    fn exchanges(&self)
-        ensures { Exchanges (Self.Kind.meaning self.now) };
+    // As many words lead from a lawful state to another as back.
+    ghost exchanges: { (k : Self) → Exchanges (Self.meaning k) };
 }

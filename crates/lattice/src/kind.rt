@@ -4,9 +4,11 @@ ghost use Rattle.lattice.specs.Calls.{EqualAnswers, LoadAnswers, cell_answer, ow
 ghost use Rattle.lattice.specs.Faults.{state_refusal};
 ghost use Rattle.lattice.specs.Grid.{Extent, InRange, agree, cell_count};
 ghost use Rattle.lattice.specs.Kind.{Bounded, Closed, Coded, Distinct, Lawful, Meaning, Monotone, Ordered, Sized};
+ghost use Rattle.lattice.specs.Shapes.{extent_of};
 ghost use Rattle.refusal.specs.Refusals.{answer, left_by};
 
 use crate::fault::StateFault;
+use crate::shape::Shape;
 use std::alloc::Global;
 
 pub trait Kind {
@@ -15,8 +17,12 @@ pub trait Kind {
     // The kind's number, 1 to 63.
     const CODE: u8;
 
+    ghost CODE: { ℕ };
+
     // How many bits the value of a cell takes, 1 to 8.
     const WIDTH: u8;
+
+    ghost WIDTH: { ℕ };
 
     ghost meaning: { Self → Meaning };
 
@@ -29,29 +35,51 @@ pub trait Kind {
     // The sides and cap that a state carries. It belongs to the rules whose extent this is.
     ghost carried: { Self.State → Extent };
 
-    ghost coded: { ℕ };
+    // Sides and cap of the rule.
+    fn shape(&self) -> Shape
+        ensures { extent_of result ≡ extent self.now };
 
-    ghost wide: { ℕ };
+    // Sides and cap that a state carries.
+    fn shape_of(state: &Self::State) -> Shape
+        ensures { extent_of result ≡ carried state.now };
 
-    fn kind_code(&self) -> u8
-        ensures { result ≡ coded };
+    final fn kind_code(&self) -> u8
+        ensures { result ≡ CODE }
+    {
+        Self::CODE
+    }
 
-    fn cell_width(&self) -> u8
-        ensures { result ≡ wide };
+    final fn cell_width(&self) -> u8
+        ensures { result ≡ WIDTH }
+    {
+        Self::WIDTH
+    }
 
     // Rows and columns.
-    fn sides(&self) -> (usize, usize)
-        ensures { result ≡ ((extent self.now).rows, (extent self.now).columns) };
+    final fn sides(&self) -> (usize, usize)
+        ensures { result ≡ ((extent self.now).rows, (extent self.now).columns) }
+    {
+        self.shape().sides()
+    }
 
-    fn cap(&self) -> u8
-        ensures { result ≡ (extent self.now).largest };
+    final fn cap(&self) -> u8
+        ensures { result ≡ (extent self.now).largest }
+    {
+        self.shape().cap()
+    }
 
-    fn cell_count(&self) -> u32
-        ensures { result ≡ cell_count (extent self.now) };
+    final fn cell_count(&self) -> u32
+        ensures { result ≡ cell_count (extent self.now) }
+    {
+        self.shape().cell_count()
+    }
 
     // Whether the state is the rule's: whether its sides and cap are.
-    fn owns(&self, state: &Self::State) -> bool
-        ensures { result ≡ agree (extent self.now) (carried state.now) };
+    final fn owns(&self, state: &Self::State) -> bool
+        ensures { result ≡ agree (extent self.now) (carried state.now) }
+    {
+        self.shape().agrees(&Self::shape_of(state))
+    }
 
     // A state of this rule, as the bottom.
     fn new_state(&self, heap: Global) -> Result<Self::State, StateFault>
@@ -101,7 +129,7 @@ pub trait Kind {
 
     ghost shared: { (j k : Self) → extent j ≡ extent k → (x : List ℕ) → Lawful (meaning j) x → Lawful (meaning k) x };
 
-    ghost sized: { (k : Self) → Sized (meaning k) (extent k) wide };
+    ghost sized: { (k : Self) → Sized (meaning k) (extent k) WIDTH };
 
     ghost lawful: { (k : Self) → (s : Self.State) → carried s ≡ extent k → Lawful (meaning k) (cells s) };
 
@@ -109,5 +137,5 @@ pub trait Kind {
 
     ghost carried_in_range: { (s : Self.State) → InRange (carried s) };
 
-    ghost encoded: { Coded coded wide };
+    ghost encoded: { Coded CODE WIDTH };
 }

@@ -3,10 +3,10 @@ ghost use Rattle.std.specs.Prelude.{◌≤◌};
 
 mod methods;
 
-pub use methods::DIRECTIONS;
+pub use methods::{ABOVE, BELOW, DIRECTIONS, LEFT, RIGHT};
 
 // `cap` is the largest value that a cell may hold.
-#[derive(Clone, Copy, Debug)]
+#[derive(Clone, Copy, Debug, PartialEq, Eq)]
 pub struct Shape {
     rows: usize,
     columns: usize,

@@ -1,15 +1,23 @@
 // Making a shape, reading it, and the neighbours of its cells.
-ghost use Rattle.std.specs.Prelude.{◌≡◌};
+ghost use Rattle.std.specs.Prelude.{◌≡◌, map};
 ghost use Rattle.lattice.specs.Faults.{shape_refusal};
-ghost use Rattle.lattice.specs.Grid.{agree, beside, cell_count};
+ghost use Rattle.lattice.specs.Grid.{agree, beside, cell_count, directions};
 ghost use Rattle.refusal.specs.Refusals.{answer};
 ghost use Rattle.lattice.specs.Shapes.{extent_of, shape_answer};
 
 use super::Shape;
 use crate::fault::ShapeFault;
 
-// The row and column shifts to the cells above, below, left and right.
-pub const DIRECTIONS: [(isize, isize); 4] = [(-1, 0), (1, 0), (0, -1), (0, 1)];
+// A shift of rows and columns to a neighbour.
+pub const ABOVE: (isize, isize) = (-1, 0);
+
+pub const BELOW: (isize, isize) = (1, 0);
+
+pub const LEFT: (isize, isize) = (0, -1);
+
+pub const RIGHT: (isize, isize) = (0, 1);
+
+pub const DIRECTIONS: [(isize, isize); 4] = [ABOVE, BELOW, LEFT, RIGHT];
 
 impl Shape {
     // Sides from 1 to 32 and a cap from 1 to `most`, the largest that the kind allows.
@@ -52,7 +60,7 @@ impl Shape {
     pub fn agrees(&self, other: &Shape) -> bool
         ensures { result ≡ agree (extent_of self.now) (extent_of other.now) }
     {
-        self.rows == other.rows && self.columns == other.columns && self.cap == other.cap
+        self == other
     }
 
     // The cell that lies one shift away from `cell`, where there is one.
@@ -66,5 +74,12 @@ impl Shape {
         } else {
             None
         }
+    }
+
+    // The cells above, below, left and right of a cell, where they exist.
+    pub fn neighbours(&self, cell: usize) -> [Option<usize>; 4]
+        ensures { result ≡ map (beside (extent_of self.now) cell) directions }
+    {
+        DIRECTIONS.map(|shift| self.beside(cell, shift))
     }
 }

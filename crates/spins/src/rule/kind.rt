@@ -1,5 +1,6 @@
 // Spin grids as a kind: code 1, one bit a cell. First what changes spins, each keeping every cell 0 or 1.
-ghost use Rattle.std.specs.Prelude.{◌≡◌, ℕ, ◌≤◌, length, take, replicate, IfOk, if◌then◌else◌, ◌==◌, slice_index, slice_set};
+ghost use Rattle.std.specs.Prelude.{◌≡◌, ℕ, ◌≤◌, length, take, replicate, IfOk, if◌then◌else◌, ◌==◌, nat_lt, slice_index, slice_set};
+ghost use Rattle.std.specs.List.{position};
 ghost use Rattle.std.proofs.Common.{subst, ap, sym, ◌∙◌, rules};
 ghost use Rattle.lattice.specs.Grid.{cell_count, Extent};
 ghost use Rattle.lattice.specs.Shapes.{extent_of};
@@ -14,7 +15,7 @@ use crate::state::SpinGrid;
 use lattice::fault::StateFault;
 use lattice::grid::Grid;
 use lattice::kind::Kind;
-use lattice::shape::{DIRECTIONS, Shape};
+use lattice::shape::Shape;
 use lattice::words::split;
 use std::alloc::{AllocError, Global};
 
@@ -60,6 +61,13 @@ impl SpinGrid {
     }
 }
 
+// The first of these values that is no spin.
+fn first_no_spin(values: &[u8]) -> Option<usize>
+    ensures { result ≡ position (nat_lt 1) values.now }
+{
+    values.iter().position(|value| *value > 1)
+}
+
 impl Spins {
     // The index of the threshold that decides the site: 4, and one more for each neighbour that is up, one less for each
     // that is down.
@@ -67,13 +75,11 @@ impl Spins {
         ensures { result ≡ threshold_index (spins_extent self.now) (spin_cells state.now) site }
     {
         let mut index = 4;
-        for shift in DIRECTIONS {
-            if let Some(neighbour) = self.shape.beside(site, shift) {
-                if state.is_up(neighbour) {
-                    index += 1;
-                } else {
-                    index -= 1;
-                }
+        for neighbour in self.shape.neighbours(site) {
+            match neighbour {
+                Some(cell) if state.is_up(cell) => index += 1,
+                Some(_) => index -= 1,
+                None => {}
             }
         }
         index
@@ -95,9 +101,9 @@ impl Kind for Spins {
 
     ghost carried = { spin_extent };
 
-    ghost coded = { 1 };
+    ghost CODE = { 1 };
 
-    ghost wide = { 1 };
+    ghost WIDTH = { 1 };
 
     ghost ordered = { λ k. Laws.ordered (spins_extent k) (spins_table k) };
 
@@ -121,57 +127,32 @@ impl Kind for Spins {
 
     ghost encoded = { Prim.search rules };
 
-    fn kind_code(&self) -> u8 {
-        Self::CODE
+    fn shape(&self) -> Shape {
+        self.shape
     }
 
-    fn cell_width(&self) -> u8 {
-        Self::WIDTH
-    }
-
-    fn sides(&self) -> (usize, usize) {
-        self.shape.sides()
-    }
-
-    fn cap(&self) -> u8 {
-        self.shape.cap()
-    }
-
-    fn cell_count(&self) -> u32 {
-        self.shape.cell_count()
-    }
-
-    fn owns(&self, state: &SpinGrid) -> bool {
-        state.grid.has_shape(&self.shape)
+    fn shape_of(state: &SpinGrid) -> Shape {
+        state.grid.shape()
     }
 
     fn new_state(&self, heap: Global) -> Result<SpinGrid, StateFault> {
-        match SpinGrid::new(heap, self.shape) {
-            Ok(state) => Ok(state),
-            Err(_) => Err(StateFault::Memory),
-        }
+        Ok(SpinGrid::new(heap, self.shape)?)
     }
 
     fn set_bottom(&self, state: &mut SpinGrid) -> Result<(), StateFault> {
-        if !self.owns(state) {
-            return Err(StateFault::Foreign);
-        }
+        state.grid.own(&self.shape)?;
         state.turn_all(false);
         Ok(())
     }
 
     fn set_top(&self, state: &mut SpinGrid) -> Result<(), StateFault> {
-        if !self.owns(state) {
-            return Err(StateFault::Foreign);
-        }
+        state.grid.own(&self.shape)?;
         state.turn_all(true);
         Ok(())
     }
 
     fn apply(&self, state: &mut SpinGrid, word: u64) -> Result<(), StateFault> {
-        if !self.owns(state) {
-            return Err(StateFault::Foreign);
-        }
+        state.grid.own(&self.shape)?;
         let (site, level) = split(word, self.shape.cell_count());
         let index = self.threshold_index(state, site as usize);
         state.turn(site as usize, u64::from(level) < self.thresholds.at(index));
@@ -187,19 +168,11 @@ impl Kind for Spins {
     }
 
     fn load(&self, state: &mut SpinGrid, bytes: &[u8]) -> Result<(), StateFault> {
-        if !self.owns(state) {
-            return Err(StateFault::Foreign);
+        let spins = state.grid.bytes_to_load(&self.shape, bytes)?;
+        if let Some(cell) = first_no_spin(spins) {
+            return Err(StateFault::Unlawful { cell });
         }
-        let count = self.shape.cell_count() as usize;
-        if bytes.len() < count {
-            return Err(StateFault::FewCells);
-        }
-        for (cell, value) in bytes[0..count].iter().enumerate() {
-            if *value > 1 {
-                return Err(StateFault::Unlawful { cell });
-            }
-        }
-        state.take_spins(bytes);
+        state.take_spins(spins);
         Ok(())
     }
 }

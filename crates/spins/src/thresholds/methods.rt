@@ -14,13 +14,15 @@ impl Thresholds {
     pub fn new(values: NineThresholds) -> Result<Thresholds, TableFault>
         ensures { TableAnswers values (answer table_of table_refusal result) }
     {
-        for index in 0..9 {
-            if values[index] > HIGHEST {
+        let mut before = 0;
+        for (index, value) in values.iter().enumerate() {
+            if *value > HIGHEST {
                 return Err(TableFault::Above { index });
             }
-            if index > 0 && values[index] < values[index - 1] {
+            if *value < before {
                 return Err(TableFault::Falls { index });
             }
+            before = *value;
         }
         Ok(Thresholds { values })
     }
@@ -29,6 +31,6 @@ impl Thresholds {
     pub fn at(&self, index: usize) -> u64
         ensures { result ≡ slice_index (table_of self.now) index }
     {
-        if index < 9 { self.values[index] } else { 0 }
+        self.values.get(index).copied().unwrap_or(0)
     }
 }
