@@ -166,12 +166,3 @@ module _ (e : Extent) where
       (λ (same : k ≡ i). let here = set_at_most x i v in rw same (omega (arith, highest_set x i v, falling i)))
       (λ (other : k ≡ i → ⊥). rw (get_or-set_other x i k v 0 other) (⊎_elim inside outside (cases_lt k (length x))))
       (cases_eq k i)
-
--- one height raised or lowered by a rule with the state's extent
-pub raise_keeps : (e f : Extent) (x : List ℕ) (i h most : ℕ) → e ≡ f → h ≡ slice_index x i → most ≡ highest e x i → Falling f x → h < most → Falling f (slice_set x i (h + 1))
-raise_keeps e f x i h most same height is falling may =
-    rw height (raised_falling f x i falling (omega (arith, ap (λ (g : Extent). highest g x i) same)))
-
-pub lower_keeps : (e f : Extent) (x : List ℕ) (i h least : ℕ) → length x ≡ cell_count f → e ≡ f → h ≡ slice_index x i → least ≡ lowest e x i → Falling f x → least < h → Falling f (slice_set x i (h - 1))
-lower_keeps e f x i h least long same height is falling may =
-    rw height (lowered_falling f x i long falling (omega (arith, ap (λ (g : Extent). lowest g x i) same)))

@@ -2,11 +2,8 @@
 // changes heights, each keeping them from rising to the right and downwards.
 ghost use Rattle.std.specs.Prelude.{◌≡◌, ◌≤◌, length, replicate, IfOk, slice_set};
 ghost use Rattle.std.proofs.Common.{subst, sym, ◌∙◌, rules};
-ghost use Rattle.lattice.specs.Calls.{owner_answer, read_answer};
-ghost use Rattle.lattice.specs.Faults.{state_refusal};
 ghost use Rattle.lattice.specs.Grid.{cell_count, Extent};
 ghost use Rattle.lattice.specs.Shapes.{extent_of};
-ghost use Rattle.refusal.specs.Refusals.{answer};
 ghost use Rattle.partitions.specs.Heights.{Falling, height_or, highest, lowered, lowest, partitions_meaning, raised};
 ghost use Rattle.partitions.specs.Partitions.{partition_cells, partition_extent, partitions_extent};
 ghost use Rattle.partitions.specs.Laws;
@@ -57,7 +54,7 @@ impl PlanePartition {
         ensures { IfOk result (λ s. (partition_cells s ≡ replicate (cell_count (extent_of shape)) 0) × (partition_extent s ≡ extent_of shape)) }
     {
         let grid = Grid::new(heap, shape)?;
-        Ok(PlanePartition { shape, grid })
+        Ok(PlanePartition { grid })
     }
 
     // Gives one cell a height that fits its neighbours.
@@ -94,7 +91,7 @@ impl PlanePartition {
         ensures keeps { partition_extent self.new ≡ partition_extent self.old }
     {
         let height = self.grid.get(site);
-        if height < highest(&self.shape, self.grid.as_slice(), site) {
+        if height < highest(&self.grid.shape(), self.grid.as_slice(), site) {
             self.put(site, height + 1);
         }
     }
@@ -105,38 +102,9 @@ impl PlanePartition {
         ensures keeps { partition_extent self.new ≡ partition_extent self.old }
     {
         let height = self.grid.get(site);
-        if height > lowest(&self.shape, self.grid.as_slice(), site) {
+        if height > lowest(&self.grid.shape(), self.grid.as_slice(), site) {
             self.put(site, height - 1);
         }
-    }
-}
-
-impl Partitions {
-    // Refuses a state that is not the rule's.
-    fn own(&self, state: &PlanePartition) -> Result<(), StateFault>
-        ensures { answer (λ u. u) state_refusal result ≡ owner_answer (partitions_extent self.now) (partition_extent state.now) }
-    {
-        if state.grid.has_shape(&self.shape) {
-            Ok(())
-        } else {
-            Err(StateFault::Foreign)
-        }
-    }
-
-    // The bytes that loading into a state reads: one for each cell, from the first on.
-    fn bytes_to_load<'a>(
-        &self,
-        state: &PlanePartition,
-        bytes: &'a [u8],
-    ) -> Result<&'a [u8], StateFault>
-        ensures { answer (λ r. r.now) state_refusal result ≡ read_answer (partitions_extent self.now) (partition_extent state.now) bytes.now }
-    {
-        self.own(state)?;
-        let count = self.shape.cell_count() as usize;
-        if bytes.len() < count {
-            return Err(StateFault::FewCells);
-        }
-        Ok(&bytes[0..count])
     }
 }
 
@@ -164,7 +132,7 @@ impl Kind for Partitions {
     }
 
     fn shape_of(state: &PlanePartition) -> Shape {
-        state.shape
+        state.grid.shape()
     }
 
     fn new_state(&self, heap: Global) -> Result<PlanePartition, StateFault> {
@@ -172,19 +140,19 @@ impl Kind for Partitions {
     }
 
     fn set_bottom(&self, state: &mut PlanePartition) -> Result<(), StateFault> {
-        self.own(state)?;
+        state.grid.own(&self.shape)?;
         state.fill(0);
         Ok(())
     }
 
     fn set_top(&self, state: &mut PlanePartition) -> Result<(), StateFault> {
-        self.own(state)?;
+        state.grid.own(&self.shape)?;
         state.fill(self.shape.cap());
         Ok(())
     }
 
     fn apply(&self, state: &mut PlanePartition, word: u64) -> Result<(), StateFault> {
-        self.own(state)?;
+        state.grid.own(&self.shape)?;
         let (site, level) = split(word, self.shape.cell_count());
         if level < THRESHOLD {
             state.raise(site as usize);
@@ -203,7 +171,7 @@ impl Kind for Partitions {
     }
 
     fn load(&self, state: &mut PlanePartition, bytes: &[u8]) -> Result<(), StateFault> {
-        let heights = self.bytes_to_load(state, bytes)?;
+        let heights = state.grid.bytes_to_load(&self.shape, bytes)?;
         for (cell, height) in heights.iter().enumerate() {
             if *height > highest(&self.shape, heights, cell) {
                 return Err(StateFault::Unlawful { cell });

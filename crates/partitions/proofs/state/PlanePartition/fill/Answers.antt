@@ -3,7 +3,7 @@ use Rattle.lattice.specs.Grids.{grid_extent}
 use Rattle.partitions.specs.HeightsLemmas.{level_falling, moved_falling}
 use Rattle.partitions.proofs.state.PlanePartition.fill.Goals as goal
 
-pub invariant_of-self-clause-falling : goal.invariant_of-self-clause-falling
-invariant_of-self-clause-falling c =
+pub invariant_of-self : goal.invariant_of-self
+invariant_of-self c =
     let e = grid_extent c.args.self.now.grid in
-    moved_falling e _ _ _ c.fill.ensures.keeps c.fill.ensures.writes (level_falling e _ _ (omega arith))
+    record { falling = moved_falling e _ _ _ c.fill.ensures.keeps c.fill.ensures.writes (level_falling e _ _ (omega arith)) }
