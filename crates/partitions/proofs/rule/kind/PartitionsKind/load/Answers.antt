@@ -1,7 +1,7 @@
-use Rattle.std.proofs.Common.{◌≡◌, ℕ, ◌<◌, ◌≤◌, length, get_or, arith, below_more, rules}
+use Rattle.std.proofs.Common.{◌≡◌, ◌<◌, ◌≤◌, length, get_or, arith, below_more, rules}
 use Rattle.lattice.specs.Grid.{cell_count}
 use Rattle.partitions.specs.Heights.{highest, partitions_meaning}
-use Rattle.partitions.specs.Partitions.{partition_extent, partitions_extent}
+use Rattle.partitions.specs.Partitions.{partitions_extent}
 use Rattle.partitions.specs.Laws.{first_bad, lawful_from}
 use Rattle.partitions.proofs.Loaded.{load_lawful, load_unlawful}
 use Rattle.partitions.proofs.rule.kind.PartitionsKind.load.Goals as goal
