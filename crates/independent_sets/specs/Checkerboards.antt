@@ -6,8 +6,8 @@ use Rattle.std.proofs.lemmas.List.{get_or_past, get_or-set_other, get_or-set_sam
 use Rattle.std.proofs.lemmas.Bool.{cases_Bool, cases_eq, cases_lt, cond_both}
 use Rattle.lattice.specs.Grid.{Extent, cell_count}
 use Rattle.lattice.specs.Kind.{Meaning}
-use Rattle.independent_sets.specs.Independent.{checkerboard, independent_sets, white}
-use Rattle.independent_sets.specs.Apart.{Apart, occupied_within}
+use Rattle.independent_sets.specs.Independent.{checkerboard, independent, independent_sets, white}
+use Rattle.independent_sets.specs.Apart.{Apart, from_apart, occupied_within}
 use Rattle.independent_sets.specs.Beside.{neighbour_other, neighbour_within}
 
 -- The order cell by cell. The laws are proved of it, and hold of the order of independent sets because that says the same.
@@ -83,3 +83,18 @@ module _ (e : Extent) (on_white on_black : ℕ) where
       let light : white e j ≡ true = other ∙ ap not f in
       there ∙ rw light (⊎_elim (λ (z : on_white < 1). omega arith) (λ (n : 1 ≤ on_white). absurd (omega (arith, alone (omega arith)))) (cases_lt on_white 1)))
       (cases_Bool (white e i))
+
+one_alone : (light : Bool) → 0 < cond light 1 0 → ◌≡◌ {A = ℕ} (cond light 0 1) 0
+one_alone true h = refl
+one_alone false h = absurd (omega arith)
+
+-- the white cells alone occupied, or the black ones alone
+module _ (e : Extent) (light : Bool) where
+  abbrev pub coloured : List ℕ
+  coloured = checkerboard e (cond light 1 0) (cond light 0 1)
+
+  pub coloured_bits : (i : ℕ) → slice_index coloured i ≤ 1
+  coloured_bits = checkerboard_bits e (cond light 1 0) (cond light 0 1) (cond_both light 1 0 (λ v. v ≤ 1) (λ t. omega arith) (λ f. omega arith)) (cond_both light 0 1 (λ v. v ≤ 1) (λ t. omega arith) (λ f. omega arith))
+
+  pub coloured_apart : independent e coloured ≡ true
+  coloured_apart = from_apart e coloured (checkerboard_apart e (cond light 1 0) (cond light 0 1) (one_alone light))

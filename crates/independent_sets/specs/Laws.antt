@@ -1,8 +1,8 @@
 -- Independent sets keep the laws of a kind and the exchange law, whatever their sides.
 use Rattle.std.specs.Prelude.{◌≡◌, ℕ, ◌+◌, ◌-◌, ◌^◌, ◌<◌, ◌≤◌, Bool, true, false, cond, not, ltb, List, ◌++◌, length, take, set, replicate, nat_lt, slice_index, slice_index_or, slice_set, refl}
-use Rattle.std.proofs.Common.{⊎_elim, sym, ap, ap₂, ◌∙◌, le_refl, arith}
+use Rattle.std.proofs.Common.{⊎_elim, sym, ap, ◌∙◌, le_refl, arith}
 use Rattle.std.proofs.ByRecursion.{All-weaker}
-use Rattle.std.proofs.lemmas.List.{ext_get_or, get_or_append_left, get_or-append_right, get_or_past, get_or-set_other, get_or-take, length-set, length-take-le, set-get_or, set-set, take_at, take-take}
+use Rattle.std.proofs.lemmas.List.{ext_get_or, get_or_append_left, get_or-append_right, get_or_past, get_or-set_other, get_or-take, length-set, length-take-le, set-get_or, set-set, take_at}
 use Rattle.std.proofs.lemmas.Bool.{cases_Bool, cases_lt, cond_both}
 use Rattle.lattice.specs.Counts.{Exchanges}
 use Rattle.lattice.specs.Grid.{Extent, cell_count}
@@ -15,7 +15,7 @@ use Rattle.lattice.proofs.Listed.{kept_holds, kept_once, kept_parts, listed, lis
 use Rattle.independent_sets.specs.Independent.{checkerboard, clear, fill, free, independent, independent_sets, may_follow, threshold, white}
 use Rattle.independent_sets.specs.Apart.{Apart, apart_from, follow_apart, follow_upto, free_at, free_from, from_apart, occupied_within, set_apart, stops_parts}
 use Rattle.independent_sets.specs.Beside.{neighbour_apart, neighbour_other}
-use Rattle.independent_sets.specs.Checkerboards.{Turned, checkerboard_apart, checkerboard_bits, checkerboard_upto, checkerwise_set, length_checkerboard, turned_along, turned_same, turned_sets, upto_checkerboard, when_from}
+use Rattle.independent_sets.specs.Checkerboards.{Turned, checkerboard_upto, checkerwise_set, coloured, coloured_apart, coloured_bits, length_checkerboard, turned_along, turned_same, turned_sets, upto_checkerboard, when_from}
 
 bit_upto : (t : Bool) → cond t 1 0 ≤ 1
 bit_upto true = omega arith
@@ -64,14 +64,13 @@ module _ (e : Extent) where
     transitive = λ x y z h k l low high i. turned_along (white e i) _ _ _ (low i) (high i);
   }
 
-  checkerboard_lawful : (on_white on_black : ℕ) → on_white ≤ 1 → on_black ≤ 1 → (0 < on_white → on_black ≡ 0) → Lawful (independent_sets e) (checkerboard e on_white on_black)
-  checkerboard_lawful on_white on_black h k alone =
-      lawful_from (checkerboard e on_white on_black) (length_checkerboard e on_white on_black) (checkerboard_bits e on_white on_black h k) (from_apart e _ (checkerboard_apart e on_white on_black alone))
+  coloured_lawful : (light : Bool) → Lawful (independent_sets e) (coloured e light)
+  coloured_lawful light = lawful_from (coloured e light) (length_checkerboard e _ _) (coloured_bits e light) (coloured_apart e light)
 
   pub bounded : Bounded (turned_sets e)
   bounded = record {
-    bottom_lawful = checkerboard_lawful 0 1 (omega arith) (omega arith) (λ h. absurd (omega arith));
-    top_lawful = checkerboard_lawful 1 0 (omega arith) (omega arith) (λ h. refl);
+    bottom_lawful = coloured_lawful false;
+    top_lawful = coloured_lawful true;
     above_bottom = λ x h i.
         let p = lawful_parts x h in
         let low = checkerboard_upto e 0 1 i in
@@ -146,7 +145,7 @@ module _ (e : Extent) where
       (cases_lt (slice_index (front x i) j) 1)))
 
   -- the first cell that may not follow those before it is the first bad cell
-  first_bad : (x : List ℕ) (i : ℕ) → length x ≡ cell_count e → i < length x → ((j : ℕ) → j < i → may_follow e (take j x) (slice_index x j) ≡ true) → may_follow e (take i x) (slice_index x i) ≡ false → FirstBad (independent_sets e) x i
+  pub first_bad : (x : List ℕ) (i : ℕ) → length x ≡ cell_count e → i < length x → ((j : ℕ) → j < i → may_follow e (take j x) (slice_index x j) ≡ true) → may_follow e (take i x) (slice_index x i) ≡ false → FirstBad (independent_sets e) x i
   first_bad x i long within follow stops = record {
     within = within;
     before = (front x i, front_lawful x i long (omega arith) follow, take_at (take i x) (replicate (length x - i) 0) (length (take i x)) refl);
@@ -163,7 +162,7 @@ module _ (e : Extent) where
   }
 
   -- cells of which each may follow those before it are lawful
-  follow_lawful : (x : List ℕ) → length x ≡ cell_count e → ((j : ℕ) → j < length x → may_follow e (take j x) (slice_index x j) ≡ true) → ((k : ℕ) → slice_index x k ≤ 1) × (independent e x ≡ true)
+  pub follow_lawful : (x : List ℕ) → length x ≡ cell_count e → ((j : ℕ) → j < length x → may_follow e (take j x) (slice_index x j) ≡ true) → ((k : ℕ) → slice_index x k ≤ 1) × (independent e x ≡ true)
   follow_lawful x long follow = (
     λ k. ⊎_elim (follow_upto e x (length x) (omega arith) (le_refl _) follow k) (λ (past : length x ≤ k). omega (arith, get_or_past x k 0 past)) (cases_lt k (length x)),
     from_apart e x
@@ -197,20 +196,3 @@ module _ (e : Extent) where
 
   pub even : 0 < cell_count e → Exchanges (independent_sets e)
   even some = exchanges (independent_sets e) (fill e) clear (cell_count e) some undo (λ w x. refl)
-
--- the same of the cells that a longer list begins with
-module _ (e : Extent) (bytes : List ℕ) (enough : cell_count e ≤ length bytes) where
-  abbrev cells : List ℕ
-  cells = take (cell_count e) bytes
-
-  size : length cells ≡ cell_count e
-  size = length-take-le (cell_count e) bytes enough
-
-  in_cells : (j : ℕ) → j < cell_count e → may_follow e (take j cells) (slice_index cells j) ≡ may_follow e (take j bytes) (slice_index bytes j)
-  in_cells j h = ap₂ (may_follow e) (take-take j (cell_count e) bytes (omega arith)) (get_or-take (cell_count e) bytes j 0 h)
-
-  pub bytes_bad : (i : ℕ) → i < cell_count e → ((j : ℕ) → j < i → may_follow e (take j bytes) (slice_index bytes j) ≡ true) → may_follow e (take i bytes) (slice_index bytes i) ≡ false → FirstBad (independent_sets e) cells i
-  bytes_bad i within follow stops = first_bad e cells i size (omega (arith, size)) (λ j h. in_cells j (omega arith) ∙ follow j h) (in_cells i within ∙ stops)
-
-  pub bytes_lawful : ((j : ℕ) → j < cell_count e → may_follow e (take j bytes) (slice_index bytes j) ≡ true) → ((k : ℕ) → slice_index cells k ≤ 1) × (independent e cells ≡ true)
-  bytes_lawful follow = follow_lawful e cells size (λ j h. let within : j < cell_count e = omega (arith, size) in in_cells j within ∙ follow j within)

@@ -182,22 +182,3 @@ module _ (e : Extent) where
         let fits = (lawful_parts b.0 b.1).1 i in
         omega (arith, same i (omega arith), highest_same e b.0 x i (λ j h. same j (omega arith)));
   }
-
-  -- the same of heights of which only the first are cells
-  taken_fits : (x : List ℕ) (n i : ℕ) → i < n → (slice_index (take n x) i ≡ slice_index x i) × (highest e (take n x) i ≡ highest e x i)
-  taken_fits x n i h = (get_or-take n x i 0 h, highest_same e (take n x) x i (λ j k. get_or-take n x j 0 (omega arith)))
-
-  pub taken_falling : (x : List ℕ) (n : ℕ) → n ≤ length x → ((j : ℕ) → j < n → Fits x j) → Falling e (take n x)
-  taken_falling x n h falling i =
-      ⊎_elim
-      (λ (k : i < n). let same = taken_fits x n i k in omega (arith, falling i k, same.0, same.1))
-      (λ (k : n ≤ i). omega (arith, get_or_past (take n x) i 0 (omega (arith, length-take-le n x h))))
-      (cases_lt i n)
-
-  pub taken_first_bad : (x : List ℕ) (i : ℕ) → cell_count e ≤ length x → i < cell_count e → ((j : ℕ) → j < i → Fits x j) → highest e x i < slice_index x i → FirstBad (partitions_meaning e) (take (cell_count e) x) i
-  taken_first_bad x i h within falling bad =
-      let long = length-take-le (cell_count e) x h in
-      let here = taken_fits x (cell_count e) i within in
-      first_bad (take (cell_count e) x) i long (omega arith)
-      (λ j k. let same = taken_fits x (cell_count e) j (omega arith) in omega (arith, falling j k, same.0, same.1))
-      (omega (arith, here.0, here.1))

@@ -1,11 +1,10 @@
-// Independent sets as a kind: code 3, one bit a cell. First what changes a set, each keeping neighbours from both being
-// occupied, and the tests of a cell by its neighbours.
-ghost use Rattle.std.specs.Prelude.{◌≡◌, ℕ, ◌≤◌, true, ◌&&◌, length, take, IfOk, if◌then◌else◌, nat_lt, slice_index, slice_set};
+// Independent sets as a kind: code 3, one bit a cell. First the tests of a cell by its neighbours, then what changes a
+// set, each keeping neighbours from both being occupied.
+ghost use Rattle.std.specs.Prelude.{◌≡◌, ℕ, ◌≤◌, true, ◌&&◌, length, IfOk, if◌then◌else◌, nat_lt, slice_index, slice_set};
 ghost use Rattle.std.proofs.Common.{subst, ap, sym, ◌∙◌, rules};
 ghost use Rattle.independent_sets.specs.Independent.{checkerboard, free, independent, independent_sets, may_follow, threshold, white};
 ghost use Rattle.independent_sets.specs.Sets.{rule_extent, state_cells, state_extent};
 ghost use Rattle.lattice.specs.Grid.{cell_count, Extent};
-ghost use Rattle.lattice.specs.Grids.{grid_cells, grid_extent};
 ghost use Rattle.lattice.specs.Shapes.{extent_of};
 ghost use Rattle.independent_sets.specs.Laws;
 ghost use Rattle.lattice.specs.Kind.{Lawful};
@@ -31,20 +30,21 @@ fn is_white(shape: &Shape, cell: usize) -> bool
     (cell / columns + cell % columns) % 2 == 0
 }
 
-// Writes one value into the white cells and another into the black ones.
-fn write_colours(grid: &mut Grid, shape: &Shape, on_white: u8, on_black: u8)
-    requires { extent_of shape.now ≡ grid_extent grid.old }
-    ensures writes { grid_cells grid.new ≡ checkerboard (grid_extent grid.old) on_white on_black }
-    ensures keeps { grid_extent grid.new ≡ grid_extent grid.old }
+// Whether the cells beside this one are empty, as far as they are given.
+fn is_free(shape: &Shape, cells: &[u8], cell: usize) -> bool
+    ensures { result ≡ free (extent_of shape.now) cells.now cell }
 {
-    for cell in 0..shape.cell_count() as usize {
-        let value = if is_white(shape, cell) {
-            on_white
-        } else {
-            on_black
-        };
-        grid.put(cell, value);
-    }
+    DIRECTIONS
+        .iter()
+        .filter_map(|shift| shape.beside(cell, *shift))
+        .all(|neighbour| cells.get(neighbour).copied().unwrap_or(0) == 0)
+}
+
+// Whether the next cell after these may hold the value.
+fn may_follow(shape: &Shape, before: &[u8], value: u8) -> bool
+    ensures { result ≡ may_follow (extent_of shape.now) before.now value }
+{
+    value == 0 || value == 1 && is_free(shape, before, before.len())
 }
 
 impl IndependentSet {
@@ -52,18 +52,20 @@ impl IndependentSet {
     fn new(heap: Global, shape: Shape) -> Result<IndependentSet, AllocError>
         ensures { IfOk result (λ s. (state_cells s ≡ checkerboard (extent_of shape) 0 1) × (state_extent s ≡ extent_of shape)) }
     {
-        let mut grid = Grid::new(heap, shape)?;
-        write_colours(&mut grid, &shape, 0, 1);
-        Ok(IndependentSet { grid })
+        let grid = Grid::new(heap, shape)?;
+        let mut set = IndependentSet { grid };
+        set.fill_colour(false);
+        Ok(set)
     }
 
     // Occupies the white cells alone where `light`, else the black ones alone.
-    fn fill_colour(&mut self, shape: &Shape, light: bool)
-        requires { extent_of shape.now ≡ state_extent self.old }
+    fn fill_colour(&mut self, light: bool)
         ensures writes { state_cells self.new ≡ checkerboard (state_extent self.old) (if light then 1 else 0) (if light then 0 else 1) }
         ensures keeps { state_extent self.new ≡ state_extent self.old }
     {
-        write_colours(&mut self.grid, shape, u8::from(light), u8::from(!light));
+        let shape = self.grid.shape();
+        self.grid
+            .fill_with(|cell| u8::from(is_white(&shape, cell) == light));
     }
 
     // Empties a cell, or occupies one whose neighbours are all empty.
@@ -75,59 +77,22 @@ impl IndependentSet {
         self.grid.put(cell, u8::from(occupied));
     }
 
-    // Takes cells that were found to be lawful, a byte each.
-    fn take_cells(&mut self, bytes: &[u8])
-        requires enough { cell_count (state_extent self.old) ≤ length bytes.now }
-        requires bits { (i : ℕ) → slice_index (take (cell_count (state_extent self.old)) bytes.now) i ≤ 1 }
-        requires apart { independent (state_extent self.old) (take (cell_count (state_extent self.old)) bytes.now) ≡ true }
-        ensures writes { state_cells self.new ≡ take (cell_count (state_extent self.old)) bytes.now }
+    // Whether the level fills the site, and not clears it.
+    fn fills(&self, site: usize, level: u32) -> bool
+        ensures { result ≡ (nat_lt level threshold && free (state_extent self.now) (state_cells self.now) site) }
+    {
+        level < THRESHOLD && is_free(&self.grid.shape(), self.grid.as_slice(), site)
+    }
+
+    // Takes cells that were found to be lawful.
+    fn take_cells(&mut self, cells: &[u8])
+        requires each { length cells.now ≡ cell_count (state_extent self.old) }
+        requires bits { (i : ℕ) → slice_index cells.now i ≤ 1 }
+        requires apart { independent (state_extent self.old) cells.now ≡ true }
+        ensures writes { state_cells self.new ≡ cells.now }
         ensures keeps { state_extent self.new ≡ state_extent self.old }
     {
-        self.grid.copy_from(bytes);
-    }
-}
-
-impl IndependentSets {
-    // Whether all neighbours of the site are empty.
-    fn is_free(&self, state: &IndependentSet, site: usize) -> bool
-        ensures { result ≡ free (rule_extent self.now) (state_cells state.now) site }
-    {
-        for shift in DIRECTIONS {
-            if let Some(neighbour) = self.shape.beside(site, shift) {
-                if state.grid.get(neighbour) != 0 {
-                    return false;
-                }
-            }
-        }
-        true
-    }
-
-    // Whether the level fills the site, and not clears it.
-    fn fills(&self, state: &IndependentSet, site: usize, level: u32) -> bool
-        ensures { result ≡ (nat_lt level threshold && free (rule_extent self.now) (state_cells state.now) site) }
-    {
-        level < THRESHOLD && self.is_free(state, site)
-    }
-
-    // Whether the next cell after these may hold the value.
-    fn may_follow(&self, before: &[u8], value: u8) -> bool
-        ensures { result ≡ may_follow (rule_extent self.now) before.now value }
-    {
-        value == 0 || value == 1 && self.is_free_after(before)
-    }
-
-    // Whether the neighbours of the next cell after these that lie among them are empty.
-    fn is_free_after(&self, before: &[u8]) -> bool
-        ensures { result ≡ free (rule_extent self.now) before.now (length before.now) }
-    {
-        for shift in DIRECTIONS {
-            if let Some(neighbour) = self.shape.beside(before.len(), shift) {
-                if neighbour < before.len() && before[neighbour] != 0 {
-                    return false;
-                }
-            }
-        }
-        true
+        self.grid.copy_from(cells);
     }
 }
 
@@ -136,7 +101,11 @@ impl Kind for IndependentSets {
 
     const CODE: u8 = 3;
 
+    ghost CODE = { 3 };
+
     const WIDTH: u8 = 1;
+
+    ghost WIDTH = { 1 };
 
     ghost meaning = { λ k. independent_sets (rule_extent k) };
 
@@ -146,9 +115,56 @@ impl Kind for IndependentSets {
 
     ghost carried = { state_extent };
 
-    ghost coded = { 3 };
+    fn shape(&self) -> Shape {
+        self.shape
+    }
 
-    ghost wide = { 1 };
+    fn shape_of(state: &IndependentSet) -> Shape {
+        state.grid.shape()
+    }
+
+    fn new_state(&self, heap: Global) -> Result<IndependentSet, StateFault> {
+        Ok(IndependentSet::new(heap, self.shape)?)
+    }
+
+    fn set_bottom(&self, state: &mut IndependentSet) -> Result<(), StateFault> {
+        state.grid.own(&self.shape)?;
+        state.fill_colour(false);
+        Ok(())
+    }
+
+    fn set_top(&self, state: &mut IndependentSet) -> Result<(), StateFault> {
+        state.grid.own(&self.shape)?;
+        state.fill_colour(true);
+        Ok(())
+    }
+
+    fn apply(&self, state: &mut IndependentSet, word: u64) -> Result<(), StateFault> {
+        state.grid.own(&self.shape)?;
+        let (site, level) = split(word, self.shape.cell_count());
+        let fills = state.fills(site as usize, level);
+        state.put(site as usize, fills);
+        Ok(())
+    }
+
+    fn equal(&self, first: &IndependentSet, second: &IndependentSet) -> Result<bool, StateFault> {
+        first.grid.same_of(&self.shape, &second.grid)
+    }
+
+    fn cell(&self, state: &IndependentSet, index: u64) -> Result<u8, StateFault> {
+        state.grid.cell_of(&self.shape, index)
+    }
+
+    fn load(&self, state: &mut IndependentSet, bytes: &[u8]) -> Result<(), StateFault> {
+        let cells = state.grid.bytes_to_load(&self.shape, bytes)?;
+        for (cell, value) in cells.iter().enumerate() {
+            if !may_follow(&self.shape, &cells[..cell], *value) {
+                return Err(StateFault::Unlawful { cell });
+            }
+        }
+        state.take_cells(cells);
+        Ok(())
+    }
 
     ghost ordered = { λ k. Laws.ordered (rule_extent k) };
 
@@ -171,86 +187,4 @@ impl Kind for IndependentSets {
     ghost carried_in_range = { Prim.search rules };
 
     ghost encoded = { Prim.search rules };
-
-    fn kind_code(&self) -> u8 {
-        Self::CODE
-    }
-
-    fn cell_width(&self) -> u8 {
-        Self::WIDTH
-    }
-
-    fn sides(&self) -> (usize, usize) {
-        self.shape.sides()
-    }
-
-    fn cap(&self) -> u8 {
-        self.shape.cap()
-    }
-
-    fn cell_count(&self) -> u32 {
-        self.shape.cell_count()
-    }
-
-    fn owns(&self, state: &IndependentSet) -> bool {
-        state.grid.has_shape(&self.shape)
-    }
-
-    fn new_state(&self, heap: Global) -> Result<IndependentSet, StateFault> {
-        match IndependentSet::new(heap, self.shape) {
-            Ok(state) => Ok(state),
-            Err(_) => Err(StateFault::Memory),
-        }
-    }
-
-    fn set_bottom(&self, state: &mut IndependentSet) -> Result<(), StateFault> {
-        if !self.owns(state) {
-            return Err(StateFault::Foreign);
-        }
-        state.fill_colour(&self.shape, false);
-        Ok(())
-    }
-
-    fn set_top(&self, state: &mut IndependentSet) -> Result<(), StateFault> {
-        if !self.owns(state) {
-            return Err(StateFault::Foreign);
-        }
-        state.fill_colour(&self.shape, true);
-        Ok(())
-    }
-
-    fn apply(&self, state: &mut IndependentSet, word: u64) -> Result<(), StateFault> {
-        if !self.owns(state) {
-            return Err(StateFault::Foreign);
-        }
-        let (site, level) = split(word, self.shape.cell_count());
-        let fills = self.fills(state, site as usize, level);
-        state.put(site as usize, fills);
-        Ok(())
-    }
-
-    fn equal(&self, first: &IndependentSet, second: &IndependentSet) -> Result<bool, StateFault> {
-        first.grid.same_of(&self.shape, &second.grid)
-    }
-
-    fn cell(&self, state: &IndependentSet, index: u64) -> Result<u8, StateFault> {
-        state.grid.cell_of(&self.shape, index)
-    }
-
-    fn load(&self, state: &mut IndependentSet, bytes: &[u8]) -> Result<(), StateFault> {
-        if !self.owns(state) {
-            return Err(StateFault::Foreign);
-        }
-        let count = self.shape.cell_count() as usize;
-        if bytes.len() < count {
-            return Err(StateFault::FewCells);
-        }
-        for (cell, value) in bytes[0..count].iter().enumerate() {
-            if !self.may_follow(&bytes[0..cell], *value) {
-                return Err(StateFault::Unlawful { cell });
-            }
-        }
-        state.take_cells(bytes);
-        Ok(())
-    }
 }

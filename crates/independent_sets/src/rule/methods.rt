@@ -25,12 +25,6 @@ impl IndependentSets {
     pub fn two_by_two() -> Result<IndependentSets, ShapeFault>
         ensures { SevenStates (answer rule_extent shape_refusal result) }
     {
-        count_two_by_two();
         IndependentSets::new(2, 2, 1)
     }
 }
-
-// Does nothing: its promise, the count, is for the proof of what calls it.
-fn count_two_by_two()
-    ensures { SevenStates (shape_answer 2 2 1 1) }
-{}

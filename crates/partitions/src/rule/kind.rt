@@ -1,6 +1,6 @@
-// Plane partitions as a kind: code 2, eight bits a cell. First what changes heights, each keeping them from rising to the
-// right and downwards.
-ghost use Rattle.std.specs.Prelude.{◌≡◌, ◌≤◌, length, take, replicate, IfOk, slice_set};
+// Plane partitions as a kind: code 2, eight bits a cell. First the bounds of a height among its neighbours, then what
+// changes heights, each keeping them from rising to the right and downwards.
+ghost use Rattle.std.specs.Prelude.{◌≡◌, ◌≤◌, length, replicate, IfOk, slice_set};
 ghost use Rattle.std.proofs.Common.{subst, sym, ◌∙◌, rules};
 ghost use Rattle.lattice.specs.Grid.{cell_count, Extent};
 ghost use Rattle.lattice.specs.Shapes.{extent_of};
@@ -15,21 +15,38 @@ use crate::state::PlanePartition;
 use lattice::fault::StateFault;
 use lattice::grid::Grid;
 use lattice::kind::Kind;
-use lattice::shape::{DIRECTIONS, Shape};
+use lattice::shape::{ABOVE, BELOW, LEFT, RIGHT, Shape};
 use lattice::words::split;
 use std::alloc::{AllocError, Global};
 
-// The places of the four directions in the table.
-const ABOVE: usize = 0;
-
-const BELOW: usize = 1;
-
-const LEFT: usize = 2;
-
-const RIGHT: usize = 3;
-
 // A word with a level below this one raises its site, any other lowers it.
 const THRESHOLD: u32 = 1 << 31;
+
+// The height at a cell, or the other where there is no cell; 0 past the last height.
+fn height_or(other: u8, heights: &[u8], cell: Option<usize>) -> u8
+    ensures { result ≡ height_or other heights.now cell }
+{
+    cell.map_or(other, |cell| heights.get(cell).copied().unwrap_or(0))
+}
+
+// The largest height that a cell may have beside those to its left and above.
+fn highest(shape: &Shape, heights: &[u8], cell: usize) -> u8
+    ensures { result ≡ highest (extent_of shape.now) heights.now cell }
+{
+    let cap = shape.cap();
+    let left = height_or(cap, heights, shape.beside(cell, LEFT));
+    let above = height_or(cap, heights, shape.beside(cell, ABOVE));
+    cap.min(left.min(above))
+}
+
+// The smallest height that a cell may have beside those to its right and below.
+fn lowest(shape: &Shape, heights: &[u8], cell: usize) -> u8
+    ensures { result ≡ lowest (extent_of shape.now) heights.now cell }
+{
+    let right = height_or(0, heights, shape.beside(cell, RIGHT));
+    let below = height_or(0, heights, shape.beside(cell, BELOW));
+    right.max(below)
+}
 
 impl PlanePartition {
     // All heights 0.
@@ -38,16 +55,6 @@ impl PlanePartition {
     {
         let grid = Grid::new(heap, shape)?;
         Ok(PlanePartition { grid })
-    }
-
-    // The height at a cell, or the other where there is no cell.
-    fn height_or(&self, other: u8, cell: Option<usize>) -> u8
-        ensures { result ≡ height_or other (partition_cells self.now) cell }
-    {
-        match cell {
-            Some(cell) => self.grid.get(cell),
-            None => other,
-        }
     }
 
     // Gives one cell a height that fits its neighbours.
@@ -69,78 +76,34 @@ impl PlanePartition {
     }
 
     // Takes heights that were found to be lawful, one for each cell.
-    fn take_heights(&mut self, bytes: &[u8])
-        requires enough { cell_count (partition_extent self.old) ≤ length bytes.now }
-        requires falling { Falling (partition_extent self.old) (take (cell_count (partition_extent self.old)) bytes.now) }
-        ensures writes { partition_cells self.new ≡ take (cell_count (partition_extent self.old)) bytes.now }
+    fn take_heights(&mut self, heights: &[u8])
+        requires each { length heights.now ≡ cell_count (partition_extent self.old) }
+        requires falling { Falling (partition_extent self.old) heights.now }
+        ensures writes { partition_cells self.new ≡ heights.now }
         ensures keeps { partition_extent self.new ≡ partition_extent self.old }
     {
-        self.grid.copy_from(bytes);
-    }
-}
-
-// The byte at a cell, or the other where there is no cell; 0 past the last byte.
-fn byte_or(other: u8, bytes: &[u8], cell: Option<usize>) -> u8
-    ensures { result ≡ height_or other bytes.now cell }
-{
-    match cell {
-        Some(cell) if cell < bytes.len() => bytes[cell],
-        Some(_) => 0,
-        None => other,
-    }
-}
-
-impl Partitions {
-    // The largest height that a cell may have beside those to its left and above.
-    fn highest(&self, state: &PlanePartition, cell: usize) -> u8
-        ensures { result ≡ highest (partitions_extent self.now) (partition_cells state.now) cell }
-    {
-        let cap = self.shape.cap();
-        let left = state.height_or(cap, self.shape.beside(cell, DIRECTIONS[LEFT]));
-        let above = state.height_or(cap, self.shape.beside(cell, DIRECTIONS[ABOVE]));
-        cap.min(left.min(above))
-    }
-
-    // The smallest height that a cell may have beside those to its right and below.
-    fn lowest(&self, state: &PlanePartition, cell: usize) -> u8
-        ensures { result ≡ lowest (partitions_extent self.now) (partition_cells state.now) cell }
-    {
-        let right = state.height_or(0, self.shape.beside(cell, DIRECTIONS[RIGHT]));
-        let below = state.height_or(0, self.shape.beside(cell, DIRECTIONS[BELOW]));
-        right.max(below)
-    }
-
-    // The largest height that a cell may have among bytes that are no state yet.
-    fn highest_among(&self, bytes: &[u8], cell: usize) -> u8
-        ensures { result ≡ highest (partitions_extent self.now) bytes.now cell }
-    {
-        let cap = self.shape.cap();
-        let left = byte_or(cap, bytes, self.shape.beside(cell, DIRECTIONS[LEFT]));
-        let above = byte_or(cap, bytes, self.shape.beside(cell, DIRECTIONS[ABOVE]));
-        cap.min(left.min(above))
+        self.grid.copy_from(heights);
     }
 
     // Raises the site by one where it may be higher.
-    fn raise(&self, state: &mut PlanePartition, site: usize)
-        requires { partitions_extent self.now ≡ partition_extent state.old }
-        ensures writes { partition_cells state.new ≡ raised (partitions_extent self.now) site (partition_cells state.old) }
-        ensures keeps { partition_extent state.new ≡ partition_extent state.old }
+    fn raise(&mut self, site: usize)
+        ensures writes { partition_cells self.new ≡ raised (partition_extent self.old) site (partition_cells self.old) }
+        ensures keeps { partition_extent self.new ≡ partition_extent self.old }
     {
-        let height = state.grid.get(site);
-        if height < self.highest(state, site) {
-            state.put(site, height + 1);
+        let height = self.grid.get(site);
+        if height < highest(&self.grid.shape(), self.grid.as_slice(), site) {
+            self.put(site, height + 1);
         }
     }
 
     // Lowers the site by one where it may be lower.
-    fn lower(&self, state: &mut PlanePartition, site: usize)
-        requires { partitions_extent self.now ≡ partition_extent state.old }
-        ensures writes { partition_cells state.new ≡ lowered (partitions_extent self.now) site (partition_cells state.old) }
-        ensures keeps { partition_extent state.new ≡ partition_extent state.old }
+    fn lower(&mut self, site: usize)
+        ensures writes { partition_cells self.new ≡ lowered (partition_extent self.old) site (partition_cells self.old) }
+        ensures keeps { partition_extent self.new ≡ partition_extent self.old }
     {
-        let height = state.grid.get(site);
-        if height > self.lowest(state, site) {
-            state.put(site, height - 1);
+        let height = self.grid.get(site);
+        if height > lowest(&self.grid.shape(), self.grid.as_slice(), site) {
+            self.put(site, height - 1);
         }
     }
 }
@@ -150,7 +113,11 @@ impl Kind for Partitions {
 
     const CODE: u8 = 2;
 
+    ghost CODE = { 2 };
+
     const WIDTH: u8 = 8;
+
+    ghost WIDTH = { 8 };
 
     ghost meaning = { λ k. partitions_meaning (partitions_extent k) };
 
@@ -160,9 +127,59 @@ impl Kind for Partitions {
 
     ghost carried = { partition_extent };
 
-    ghost coded = { 2 };
+    fn shape(&self) -> Shape {
+        self.shape
+    }
 
-    ghost wide = { 8 };
+    fn shape_of(state: &PlanePartition) -> Shape {
+        state.grid.shape()
+    }
+
+    fn new_state(&self, heap: Global) -> Result<PlanePartition, StateFault> {
+        Ok(PlanePartition::new(heap, self.shape)?)
+    }
+
+    fn set_bottom(&self, state: &mut PlanePartition) -> Result<(), StateFault> {
+        state.grid.own(&self.shape)?;
+        state.fill(0);
+        Ok(())
+    }
+
+    fn set_top(&self, state: &mut PlanePartition) -> Result<(), StateFault> {
+        state.grid.own(&self.shape)?;
+        state.fill(self.shape.cap());
+        Ok(())
+    }
+
+    fn apply(&self, state: &mut PlanePartition, word: u64) -> Result<(), StateFault> {
+        state.grid.own(&self.shape)?;
+        let (site, level) = split(word, self.shape.cell_count());
+        if level < THRESHOLD {
+            state.raise(site as usize);
+        } else {
+            state.lower(site as usize);
+        }
+        Ok(())
+    }
+
+    fn equal(&self, first: &PlanePartition, second: &PlanePartition) -> Result<bool, StateFault> {
+        first.grid.same_of(&self.shape, &second.grid)
+    }
+
+    fn cell(&self, state: &PlanePartition, index: u64) -> Result<u8, StateFault> {
+        state.grid.cell_of(&self.shape, index)
+    }
+
+    fn load(&self, state: &mut PlanePartition, bytes: &[u8]) -> Result<(), StateFault> {
+        let heights = state.grid.bytes_to_load(&self.shape, bytes)?;
+        for (cell, height) in heights.iter().enumerate() {
+            if *height > highest(&self.shape, heights, cell) {
+                return Err(StateFault::Unlawful { cell });
+            }
+        }
+        state.take_heights(heights);
+        Ok(())
+    }
 
     ghost ordered = { λ k. Laws.ordered (partitions_extent k) };
 
@@ -187,89 +204,4 @@ impl Kind for Partitions {
     ghost carried_in_range = { Prim.search rules };
 
     ghost encoded = { Prim.search rules };
-
-    fn kind_code(&self) -> u8 {
-        Self::CODE
-    }
-
-    fn cell_width(&self) -> u8 {
-        Self::WIDTH
-    }
-
-    fn sides(&self) -> (usize, usize) {
-        self.shape.sides()
-    }
-
-    fn cap(&self) -> u8 {
-        self.shape.cap()
-    }
-
-    fn cell_count(&self) -> u32 {
-        self.shape.cell_count()
-    }
-
-    fn owns(&self, state: &PlanePartition) -> bool {
-        state.grid.has_shape(&self.shape)
-    }
-
-    fn new_state(&self, heap: Global) -> Result<PlanePartition, StateFault> {
-        match PlanePartition::new(heap, self.shape) {
-            Ok(state) => Ok(state),
-            Err(_) => Err(StateFault::Memory),
-        }
-    }
-
-    fn set_bottom(&self, state: &mut PlanePartition) -> Result<(), StateFault> {
-        if !self.owns(state) {
-            return Err(StateFault::Foreign);
-        }
-        state.fill(0);
-        Ok(())
-    }
-
-    fn set_top(&self, state: &mut PlanePartition) -> Result<(), StateFault> {
-        if !self.owns(state) {
-            return Err(StateFault::Foreign);
-        }
-        state.fill(self.shape.cap());
-        Ok(())
-    }
-
-    fn apply(&self, state: &mut PlanePartition, word: u64) -> Result<(), StateFault> {
-        if !self.owns(state) {
-            return Err(StateFault::Foreign);
-        }
-        let (site, level) = split(word, self.shape.cell_count());
-        if level < THRESHOLD {
-            self.raise(state, site as usize);
-        } else {
-            self.lower(state, site as usize);
-        }
-        Ok(())
-    }
-
-    fn equal(&self, first: &PlanePartition, second: &PlanePartition) -> Result<bool, StateFault> {
-        first.grid.same_of(&self.shape, &second.grid)
-    }
-
-    fn cell(&self, state: &PlanePartition, index: u64) -> Result<u8, StateFault> {
-        state.grid.cell_of(&self.shape, index)
-    }
-
-    fn load(&self, state: &mut PlanePartition, bytes: &[u8]) -> Result<(), StateFault> {
-        if !self.owns(state) {
-            return Err(StateFault::Foreign);
-        }
-        let count = self.shape.cell_count() as usize;
-        if bytes.len() < count {
-            return Err(StateFault::FewCells);
-        }
-        for (cell, height) in bytes[0..count].iter().enumerate() {
-            if *height > self.highest_among(bytes, cell) {
-                return Err(StateFault::Unlawful { cell });
-            }
-        }
-        state.take_heights(bytes);
-        Ok(())
-    }
 }

@@ -24,12 +24,6 @@ impl Partitions {
     pub fn two_by_two_with_cap_one() -> Result<Partitions, ShapeFault>
         ensures { SixStates (answer partitions_extent shape_refusal result) }
     {
-        count_two_by_two();
         Partitions::new(2, 2, 1)
     }
 }
-
-// Does nothing: its promise, the count, is for the proof of what calls it.
-fn count_two_by_two()
-    ensures { SixStates (shape_answer 2 2 1 255) }
-{}
