@@ -1,19 +1,17 @@
 -- Laws of windows that a source can fill: their words have 64 bits, and a larger window has older words in front.
 use Rattle.std.proofs.Common.{◌≡◌, ℕ, zero, suc, ◌<◌, ◌≤◌, true, List, [], ◌∷◌, ◌++◌, refl, ap, ap₂, ⊎_elim, arith}
-use Rattle.std.proofs.lemmas.Bool.{and_parts, and_from, cases_lt, le-leb, leb-true}
+use Rattle.std.proofs.lemmas.Bool.{cases_lt}
+use Rattle.std.proofs.lemmas.Bool.Decides.{nat_tests}
 use Rattle.sources.specs.Sources.{Reading, Sound, has_place}
 use Rattle.coupling.specs.Lead.{Words}
 use Rattle.coupling.specs.Windows.{Agree, CanFill, draw_place, window_words}
 
 place_parts : (r : Reading) (place : ℕ) → has_place r place ≡ true → (1 ≤ place) × (place ≤ r.depth)
-place_parts r place h = let p = and_parts _ _ h in (leb-true 1 place p.0, leb-true place r.depth p.1)
-
-place_from : (r : Reading) (place : ℕ) → 1 ≤ place → place ≤ r.depth → has_place r place ≡ true
-place_from r place low high = and_from _ _ (le-leb 1 place low) (le-leb place r.depth high)
+place_parts r place h = (grind (arith, nat_tests), grind (arith, nat_tests))
 
 -- a source that can fill a window has all its places
 has_upto : (r : Reading) (stretch d T t : ℕ) → has_place r (draw_place stretch d T) ≡ true → 1 ≤ t → t ≤ T → has_place r (draw_place stretch d t) ≡ true
-has_upto r stretch d T t h some upto = let p = place_parts r (draw_place stretch d T) h in place_from r (draw_place stretch d t) (omega arith) (omega (arith, p.1))
+has_upto r stretch d T t h some upto = grind (arith, nat_tests)
 
 filled_words : (r : Reading) → Sound r → (stretch d T t : ℕ) → has_place r (draw_place stretch d T) ≡ true → t ≤ T → Words (window_words r stretch d t)
 unfolding window_words

@@ -1,5 +1,5 @@
 -- Larger windows, and agreeing sources, give the same sample.
-use Rattle.std.proofs.Common.{◌≡◌, ℕ, ◌<◌, ◌≤◌, List, [], ◌∷◌, ◌++◌, sym, ◌∙◌, subst, ⊎_elim, arith}
+use Rattle.std.proofs.Common.{◌≡◌, ℕ, ◌<◌, ◌≤◌, List, [], ◌∷◌, ◌++◌, sym, ◌∙◌, ⊎_elim, arith}
 use Rattle.std.proofs.lemmas.Bool.{cases_lt}
 use Rattle.lattice.specs.Kind.{Meaning, Ordered, Bounded, Closed, Monotone}
 use Rattle.sources.specs.Sources.{Reading, Sound}
@@ -17,9 +17,6 @@ words_back : (older newer : List ℕ) → Words (older ++ newer) → Words newer
 words_back [] newer all = all
 words_back (w ∷ ws) newer all = words_back ws newer all.1
 
-same_state : (x y : List ℕ) → met_in x ≡ met_in y → x ≡ y
-same_state x y e = cc
-
 module _ (m : Meaning) (ordered : Ordered m) (bounded : Bounded m) (closed : Closed m) (monotone : Monotone m) where
   -- words in front of some that meet change nothing
   pub older_change_nothing : OlderWordsChangeNothing m
@@ -33,16 +30,15 @@ module _ (m : Meaning) (ordered : Ordered m) (bounded : Bounded m) (closed : Clo
   larger_windows r sound stretch d T U fill upto y met =
       let p = older_words r stretch d T U upto in
       let all = window_is_words r sound stretch d U fill in
-      subst (λ (ws : List ℕ). outcome m ws ≡ met_in y) (sym p.1)
-      (older_change_nothing p.0 (window_words r stretch d T) (subst Words p.1 all) y met)
+      rw p.1 (older_change_nothing p.0 (window_words r stretch d T) (rw p.1 at all) y met)
 
   -- where one source's window is at most the other's
   smaller_first : (r q : Reading) → Sound q → Agree r q → (stretch d T U : ℕ) → CanFill r stretch d T → CanFill q stretch d U → T ≤ U → (x y : List ℕ) → outcome m (window_words r stretch d T) ≡ met_in x → outcome m (window_words q stretch d U) ≡ met_in y → x ≡ y
   smaller_first r q sound agree stretch d T U fill too upto x y first second =
       let small = fills_smaller q stretch d T U fill.some upto too in
       let words = same_window r q agree stretch d T fill small in
-      let kept = larger_windows q sound stretch d T U too upto x (subst (λ (ws : List ℕ). outcome m ws ≡ met_in x) words first) in
-      same_state x y (sym kept ∙ second)
+      let kept = larger_windows q sound stretch d T U too upto x (rw words at first) in
+      cc
 
   pub agreeing_sources : (r q : Reading) → Sound r → Sound q → AgreeingSourcesMeetAlike m r q
   agreeing_sources r q sound also agree stretch d T U fill too x y first second =

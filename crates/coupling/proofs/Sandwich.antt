@@ -1,5 +1,5 @@
 -- Every lawful start ends between the ends of bottom and top.
-use Rattle.std.proofs.Common.{◌≡◌, ℕ, List, [], ◌∷◌, ◌++◌, sym, refl, ap, ◌∙◌, subst}
+use Rattle.std.proofs.Common.{◌≡◌, ℕ, List, [], ◌∷◌, ◌++◌, sym, refl, ap, ◌∙◌}
 use Rattle.lattice.specs.Kind.{Meaning, Lawful, Ordered, Bounded, Closed, Monotone}
 use Rattle.coupling.specs.Ends.{AllEndIn, ApartWhereSomeDiffer, EndsBetween, MeetsWhereAllEnd}
 use Rattle.coupling.specs.Lead.{Words, lead, met_in}
@@ -31,10 +31,7 @@ module _ (m : Meaning) (ordered : Ordered m) (bounded : Bounded m) (closed : Clo
   all_end_together ws all y low high x h =
       let between = ends_between ws all x h in
       let bottom = lead_lawful m closed ws all m.bottom bounded.bottom_lawful in
-      let lawful = subst (Lawful m) low bottom in
-      ordered.antisymmetric (lead m ws x) y (lead_lawful m closed ws all x h) lawful
-      (subst (λ (z : List ℕ). m.below (lead m ws x) z) high between.1)
-      (subst (λ (z : List ℕ). m.below z (lead m ws x)) low between.0)
+      ordered.antisymmetric (lead m ws x) y (lead_lawful m closed ws all x h) (rw low at bottom) (rw high at between.1) (rw low at between.0)
 
   pub meets_where_all_end : MeetsWhereAllEnd m
   meets_where_all_end ws all y = (

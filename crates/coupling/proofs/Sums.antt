@@ -1,11 +1,10 @@
 -- Sums over numbers, lists of words and lists of states.
-use Rattle.std.proofs.Common.{◌≡◌, ℕ, zero, suc, ◌+◌, ◌*◌, ◌^◌, ◌<◌, ◌≤◌, true, false, List, [], ◌∷◌, length, sym, refl, ap, ◌∙◌, subst, ap₂, inl, inr, ⊎_elim, suc-mul, mul_comm, add-mul, mul-zero, zero-mul, arith}
+use Rattle.std.proofs.Common.{◌≡◌, ℕ, zero, suc, ◌+◌, ◌*◌, ◌^◌, ◌<◌, ◌≤◌, List, [], ◌∷◌, length, sym, refl, ap, ◌∙◌, subst, ap₂, inl, inr, mul-suc, add-mul, mul-zero, zero-mul, arith}
 use Rattle.std.proofs.lemmas.Slice.Eq.{bytes_eq-Decides}
-use Rattle.std.proofs.lemmas.Bool.{cases_Bool}
-use Rattle.std.specs.Str.{bytes_eq}
 use Rattle.lattice.specs.Counts.{same_as, sum_below}
 use Rattle.lattice.specs.Kind.{Distinct, Holds}
 use Rattle.lattice.proofs.Halves.{sum_constant, sum_same}
+use Rattle.coupling.proofs.Outcomes.{unequal}
 use Rattle.coupling.specs.Lead.{Words}
 use Rattle.coupling.specs.Shares.{sum_lists}
 
@@ -71,16 +70,9 @@ pub over_times : (xs : List (List ℕ)) (f : List ℕ → ℕ) (c : ℕ) → ove
 over_times [] f c = sym (zero-mul c)
 over_times (x ∷ xs) f c = ap (λ (s : ℕ). f x * c + s) (over_times xs f c) ∙ sym (add-mul (f x) (over xs f) c)
 
-over_zero : (xs : List (List ℕ)) → over xs (λ x. 0) ≡ 0
-over_zero [] = refl
-over_zero (x ∷ xs) = let rest = over_zero xs in omega arith
-
 pub over_constant : (xs : List (List ℕ)) (c : ℕ) → over xs (λ x. c) ≡ c * length xs
 over_constant [] c = sym (mul-zero c)
-over_constant (x ∷ xs) c =
-    let rest = over_constant xs c in
-    let more = suc-mul (length xs) c in
-    rw (mul_comm c (suc (length xs))) (omega (arith, rw (mul_comm c (length xs)) at rest))
+over_constant (x ∷ xs) c = let rest = over_constant xs c in omega (arith, mul-suc c (length xs))
 
 pub over_le : (xs : List (List ℕ)) (f : List ℕ → ℕ) → ((x : List ℕ) → f x ≤ 1) → over xs f ≤ length xs
 over_le [] f le = omega arith
@@ -88,7 +80,7 @@ over_le (x ∷ xs) f le = let rest = over_le xs f le in let here = le x in omega
 
 -- exchanging two sums
 pub over_over : (xs ys : List (List ℕ)) (f : List ℕ → List ℕ → ℕ) → over xs (λ x. over ys (λ y. f x y)) ≡ over ys (λ y. over xs (λ x. f x y))
-over_over [] ys f = sym (over_zero ys)
+over_over [] ys f = sym (over_constant ys 0 ∙ zero-mul (length ys))
 over_over (x ∷ xs) ys f = ap (λ (s : ℕ). over ys (f x) + s) (over_over xs ys f) ∙ sym (over_add ys (f x) (λ y. over xs (λ z. f z y)))
 
 pub sum_over : (n : ℕ) (xs : List (List ℕ)) (f : ℕ → List ℕ → ℕ) → sum_below n (λ k. over xs (λ x. f k x)) ≡ over xs (λ x. sum_below n (λ k. f k x))
@@ -104,11 +96,7 @@ pub same_yes : (x y : List ℕ) → x ≡ y → same_as x y ≡ 1
 same_yes x y e = rw ((bytes_eq-Decides x y).1 e) refl
 
 pub same_no : (x y : List ℕ) → (x ≡ y → ⊥) → same_as x y ≡ 0
-same_no x y differ =
-    ⊎_elim
-    (λ (t : bytes_eq x y ≡ true). absurd (differ ((bytes_eq-Decides x y).0 t)))
-    (λ (f : bytes_eq x y ≡ false). rw f refl)
-    (cases_Bool (bytes_eq x y))
+same_no x y differ = rw (unequal x y differ) refl
 
 unlisted : (xs : List (List ℕ)) (z : List ℕ) (f : List ℕ → ℕ) → (Holds xs z → ⊥) → over xs (λ y. same_as z y * f y) ≡ 0
 unlisted [] z f out = refl

@@ -3,3 +3,4 @@ pub mod Sources
 pub mod SplitMix
 pub mod Recordings
 pub mod Readings
+pub mod Soundness

@@ -1,5 +1,6 @@
 // The counter generator: the word at a place is SplitMix64's mixing of a counter that grows by one step a place.
 ghost use Rattle.std.specs.Prelude.{◌≡◌};
+ghost use Rattle.sources.specs.Soundness.{counter_sound};
 ghost use Rattle.sources.specs.SplitMix.{counter_reading, mixed};
 
 mod methods;
@@ -20,19 +21,16 @@ impl Source for Counter {
 
     ghost reading = { λ c. counter_reading c.seed };
 
+    ghost sound = { λ c. counter_sound c.seed };
+
     fn depth(&self) -> u64 {
         1 << 40
     }
 
     fn word(&self, place: u64) -> Result<u64, NoWord> {
-        let depth = self.depth();
-        if place < 1 || place > depth {
-            return Err(NoWord { place, depth });
-        }
+        NoWord::unless_among(place, self.depth())?;
         Ok(mix(self.seed.wrapping_add(place.wrapping_mul(GAMMA))))
     }
-
-    fn sound(&self) {}
 }
 
 // The three mixing steps that make a word of a counter.

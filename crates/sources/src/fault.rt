@@ -1,4 +1,5 @@
 // The refusals of sources. specs/Faults.antt has their numbers.
+ghost use Rattle.std.specs.Prelude.{◌≡◌, ◌<◌, ◌≤◌, ◌⊎◌, MatchResult};
 ghost use Rattle.sources.specs.Faults.{no_word_refusal, recording_refusal};
 
 use refusal::Cause;
@@ -9,6 +10,19 @@ use std::alloc::AllocError;
 pub struct NoWord {
     pub place: u64,
     pub depth: u64,
+}
+
+impl NoWord {
+    // Refuses a place that is not one of the places 1 to depth.
+    pub(crate) fn unless_among(place: u64, depth: u64) -> Result<(), NoWord>
+        ensures { MatchResult result (λ u. (1 ≤ place) × (place ≤ depth)) (λ e. (e.place ≡ place) × (e.depth ≡ depth) × ((place ≡ 0) ⊎ (depth < place))) }
+    {
+        if (1..=depth).contains(&place) {
+            Ok(())
+        } else {
+            Err(NoWord { place, depth })
+        }
+    }
 }
 
 // Bytes of this length make no recording.

@@ -1,5 +1,7 @@
 // Recordings: words read out of borrowed bytes, each from eight of them in big-endian order.
-ghost use Rattle.sources.specs.Recordings.{recording_reading};
+ghost use Rattle.std.specs.Prelude.{◌≡◌};
+ghost use Rattle.sources.specs.Recordings.{big_endian, recording_reading};
+ghost use Rattle.std.proofs.Common.{rules};
 
 mod methods;
 
@@ -16,19 +18,22 @@ impl Source for Recording<'_> {
 
     ghost reading = { λ r. recording_reading r.bytes.now };
 
+    ghost sound = { Prim.search rules };
+
     fn depth(&self) -> u64 {
         self.bytes.len() as u64 / 8
     }
 
     fn word(&self, place: u64) -> Result<u64, NoWord> {
-        let depth = self.depth();
-        if place < 1 || place > depth {
-            return Err(NoWord { place, depth });
-        }
-        let at = (place - 1) as usize * 8;
-        let b = &self.bytes[at..at + 8];
-        Ok(u64::from_be_bytes([b[0], b[1], b[2], b[3], b[4], b[5], b[6], b[7]]))
+        NoWord::unless_among(place, self.depth())?;
+        let (words, _) = self.bytes.as_chunks::<8>();
+        Ok(word_of(words[place as usize - 1]))
     }
+}
 
-    fn sound(&self) {}
+// The word that eight bytes write.
+fn word_of(bytes: [u8; 8]) -> u64
+    ensures { result ≡ big_endian bytes }
+{
+    u64::from_be_bytes(bytes)
 }

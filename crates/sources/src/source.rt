@@ -20,7 +20,6 @@ pub trait Source {
     fn word(&self, place: u64) -> Result<u64, Self::Fault>
         ensures { answer (λ w. w) Self.Fault.Cause.refusal result ≡ word_answer (reading self.now) place };
 
-    // Does nothing: its promise, that every word fits 64 bits, is for the proofs of what calls it.
-    fn sound(&self)
-        ensures { Sound (reading self.now) };
+    // Every word fits 64 bits.
+    ghost sound: { (s : Self) → Sound (reading s) };
 }

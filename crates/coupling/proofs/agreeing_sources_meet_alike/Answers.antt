@@ -5,4 +5,4 @@ pub returns : goal.returns
 returns g c =
     let laws = g.met.K.Kind in
     let rule = c.args.rule.now in
-    agreeing_sources (g.K.Kind.meaning rule) (laws.ordered rule) (laws.bounded rule) (laws.closed rule) (laws.monotone rule) (g.S.Source.reading c.args.first.now) (g.T.Source.reading c.args.second.now) c.sound.ensures c.sound-2.ensures
+    agreeing_sources (g.K.Kind.meaning rule) (laws.ordered rule) (laws.bounded rule) (laws.closed rule) (laws.monotone rule) (g.S.Source.reading c.args.first.now) (g.T.Source.reading c.args.second.now) (g.met.S.Source.sound c.args.first.now) (g.met.T.Source.sound c.args.second.now)

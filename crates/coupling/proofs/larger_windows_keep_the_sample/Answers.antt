@@ -7,5 +7,5 @@ returns g c =
     let rule = c.args.rule.now in
     record {
       older = older_change_nothing (g.K.Kind.meaning rule) (laws.ordered rule) (laws.bounded rule) (laws.closed rule) (laws.monotone rule);
-      larger = larger_windows (g.K.Kind.meaning rule) (laws.ordered rule) (laws.bounded rule) (laws.closed rule) (laws.monotone rule) (g.S.Source.reading c.args.source.now) c.sound.ensures;
+      larger = larger_windows (g.K.Kind.meaning rule) (laws.ordered rule) (laws.bounded rule) (laws.closed rule) (laws.monotone rule) (g.S.Source.reading c.args.source.now) (g.met.S.Source.sound c.args.source.now);
     }

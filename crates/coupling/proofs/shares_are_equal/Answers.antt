@@ -5,4 +5,4 @@ pub returns : goal.returns
 returns g c =
     let laws = g.met.E.Kind in
     let rule = c.args.rule.now in
-    equal_shares (g.E.Kind.meaning rule) (laws.ordered rule) (laws.bounded rule) (laws.closed rule) (laws.monotone rule) (laws.distinct rule) c.exchanges.ensures
+    equal_shares (g.E.Kind.meaning rule) (laws.ordered rule) (laws.bounded rule) (laws.closed rule) (laws.monotone rule) (laws.distinct rule) (g.met.E.Even.exchanges rule)
