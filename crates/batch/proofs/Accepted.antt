@@ -1,12 +1,13 @@
 -- When a try is accepted, and what it then reads.
-use Rattle.std.proofs.Common.{◌≡◌, ℕ, ◌<◌, Bool, true, false, ◌&&◌, ltb, leb, ◌⊎◌, List, sym, refl, ap, ◌∙◌, inl, inr, ⊎_elim, arith}
+use Rattle.std.proofs.Common.{◌≡◌, ℕ, ◌<◌, Bool, true, false, ◌&&◌, ltb, leb, ◌⊎◌, List, sym, refl, ap, ◌∙◌, inl, inr, ⊎_elim}
 use Rattle.std.proofs.lemmas.Bool.{and_from, and_parts, le-leb, leb-true, lt-ltb, ltb-true}
 use Rattle.coupling.specs.Lead.{Ends, apart_at, met_in, outcome}
 use Rattle.coupling.specs.Windows.{CanFill, draw_place, window_words}
 use Rattle.refusal.specs.Refusals.{Answer, Refusal, given, refused, provided}
 use Rattle.sources.specs.Sources.{has_place}
 use Rattle.batch.specs.Machine.{Draw, Machine, met_draw, open_draw, with_out}
-use Rattle.batch.specs.Tries.{Setting, DrawAndStates, read_for, ends_report, owned, report_of, try_report, words_of_try}
+use Rattle.batch.specs.Runs.{AnswersApart}
+use Rattle.batch.specs.Tries.{Report, Setting, DrawAndStates, read_for, ends_report, owned, report_of, tried_to, try_report, words_of_try}
 
 pub record Accepted (s : Setting) (m : Machine) (st : DrawAndStates) (T : ℕ) : Type 0 where
   pub own : owned s st ≡ true
@@ -15,11 +16,11 @@ pub record Accepted (s : Setting) (m : Machine) (st : DrawAndStates) (T : ℕ) :
 
 passed : {A : Type 0} (b : Bool) (c : Refusal) (a : Answer A) (x : A) → given x ≡ provided b c a → (b ≡ true) × (given x ≡ a)
 passed true c a x e = (refl, e)
-passed false c a x e = let z : ◌≡◌ {A = ℕ} 0 1 = cc in absurd (omega arith)
+passed false c a x e = cc
 
 had : (number T v : ℕ) (b : Bool) (c : Refusal) (ws all : List ℕ) → given ws ≡ read_for number T (provided b c (given v)) (λ w. all) → (b ≡ true) × (ws ≡ all)
 had number T v true c ws all e = (refl, cc)
-had number T v false c ws all e = let z : ◌≡◌ {A = ℕ} 0 1 = cc in absurd (omega arith)
+had number T v false c ws all e = cc
 
 pub accepted_when : (s : Setting) (m : Machine) (st : DrawAndStates) (T : ℕ) (ws : List ℕ) → given ws ≡ words_of_try s m st T → Accepted s m st T × (ws ≡ window_words s.source m.stretch st.draw.number T)
 accepted_when s m st T ws e =
@@ -49,15 +50,12 @@ pub which : {A : Type 0} (a : Answer A) → ((x : A) × (given x ≡ a)) ⊎ ((c
 which (given x) = inl (x, refl)
 which (refused c) = inr (c, refl)
 
-never_given : {A : Type 0} (x : A) (c : Refusal) → given x ≡ refused c → ⊥
-never_given x c e = let z : ◌≡◌ {A = ℕ} 0 1 = cc in omega arith
-
 -- a try that answers met or apart was accepted
 pub answered : (s : Setting) (m : Machine) (st : DrawAndStates) (T : ℕ) (b : Bool) → (try_report s m st T).answer ≡ given b → Accepted s m st T
 answered s m st T b e =
     ⊎_elim
     (λ (h : (ws : List ℕ) × (given ws ≡ words_of_try s m st T)). (accepted_when s m st T h.0 h.1).0)
-    (λ (h : (c : Refusal) × (refused c ≡ words_of_try s m st T)). absurd (never_given b h.0 (sym (ap (λ (a : Answer (List ℕ)). (report_of s m st T a).answer) h.1 ∙ e))))
+    (λ (h : (c : Refusal) × (refused c ≡ words_of_try s m st T)). cc (ap (λ (a : Answer (List ℕ)). (report_of s m st T a).answer) h.1, e))
     (which (words_of_try s m st T))
 
 -- what an accepted try reports
@@ -76,3 +74,13 @@ same_report s m st now T same a b =
     ∙ same_number m now.draw st.draw T _ same
     ∙ ap (λ (n : ℕ). ends_report m st.draw T (outcome s.rule (window_words s.source m.stretch n T))) same
     ∙ sym (accepted_report s m st T b)
+
+apart_ends : (m : Machine) (d : Draw) (T : ℕ) (ends : Ends) → (ends_report m d T ends).answer ≡ given false → (ends_report m d T ends).machine ≡ with_out m (open_draw (tried_to d T))
+apart_ends m d T (met_in y) e = cc
+apart_ends m d T (apart_at x y) e = refl
+
+-- the machine after a try that was apart
+pub apart_machine : (s : Setting) (m : Machine) (st : DrawAndStates) (T : ℕ) → AnswersApart s m st T → (try_report s m st T).machine ≡ with_out m (open_draw (tried_to st.draw T))
+apart_machine s m st T apart =
+    let report = accepted_report s m st T (answered s m st T false apart) in
+    ap (λ (r : Report). r.machine) report ∙ apart_ends m st.draw T _ (sym (ap (λ (r : Report). r.answer) report) ∙ apart)

@@ -1,42 +1,23 @@
 -- The turns of a run's loop, in terms of the draw's values.
-use Rattle.std.proofs.Common.{◌≡◌, ℕ, ◌+◌, ◌^◌, true, false, ◌&&◌, ltb, List, sym, refl, ap, ◌∙◌, subst, ⊎_elim, arith}
+use Rattle.std.proofs.Common.{◌≡◌, ℕ, ◌+◌, ◌^◌, true, false, ◌&&◌, ltb, List, sym, ap, ◌∙◌, subst, ⊎_elim}
 use Rattle.std.proofs.lemmas.Bool.{and_from, and_parts, both_ways, cases_Bool, lt-ltb, ltb-true}
-use Rattle.coupling.specs.Lead.{Ends, apart_at, met_in}
 use Rattle.lattice.specs.Grid.{Extent}
 use Rattle.refusal.specs.Refusals.{given}
 use Rattle.batch.specs.Ends.{SameExtents, Two, two}
-use Rattle.batch.specs.Machine.{Draw, Machine, Out, met_draw, none, open_draw, with_out}
+use Rattle.batch.specs.Machine.{Draw, Machine, none, open_draw, with_out}
 use Rattle.batch.specs.Meanings.{open_machine, open_one, with_draw}
-use Rattle.batch.specs.Runs.{AnswersApart, ComesTo, RunReports, doubled_report}
-use Rattle.batch.specs.Tries.{Report, Setting, DrawAndStates, ends_report, tried_to, try_report, with_two}
+use Rattle.batch.specs.Runs.{ComesTo, RunReports, doubled_report}
+use Rattle.batch.specs.Tries.{Report, Setting, DrawAndStates, try_report, with_two}
 use Rattle.batch.specs.declared.draws.Batch.{Batch}
 use Rattle.batch.specs.declared.draws.OpenDraw.{OpenDraw}
-use Rattle.batch.proofs.Accepted.{accepted_report, answered}
+use Rattle.batch.proofs.Accepted.{apart_machine}
 use Rattle.batch.proofs.Runs.{ends_early, ends_last, goes_on, passes}
 
--- the draw that is out
-abbrev out_draw : Out → Draw
-out_draw none = record { number = 0; tried = 0 }
-out_draw (open_draw d) = d
-out_draw (met_draw d) = d
+same_draw : (d e : Draw) → open_draw d ≡ open_draw e → d ≡ e
+same_draw d e same = cc
 
-apart_out : (m : Machine) (d : Draw) (T : ℕ) (ends : Ends) → (ends_report m d T ends).answer ≡ given false → (ends_report m d T ends).machine.out ≡ open_draw (tried_to d T)
-apart_out m d T (met_in y) e = let z : ◌≡◌ {A = ℕ} 0 1 = cc in absurd (omega arith)
-apart_out m d T (apart_at x y) e = refl
-
--- the draw after a try that was apart
-apart_draw : (s : Setting) (m : Machine) (st : DrawAndStates) (T : ℕ) → AnswersApart s m st T → (try_report s m st T).machine.out ≡ open_draw (tried_to st.draw T)
-apart_draw s m st T apart =
-    let report = accepted_report s m st T (answered s m st T false apart) in
-    ap (λ (r : Report). r.machine.out) report ∙ apart_out m st.draw T _ (sym (ap (λ (r : Report). r.answer) report) ∙ apart)
-
-same_draw_and_states : (d d' : Draw) (t t' : Two) → d ≡ d' → t.low_extent ≡ t'.low_extent → t.high_extent ≡ t'.high_extent → t.low ≡ t'.low → t.high ≡ t'.high → with_two d t ≡ with_two d' t'
-same_draw_and_states d d' t t' hd he hf hx hy =
-    ap (λ (v : Draw). with_two v t) hd
-    ∙ ap (λ (v : Extent). with_two d' (two v t.high_extent t.low t.high)) he
-    ∙ ap (λ (v : Extent). with_two d' (two t'.low_extent v t.low t.high)) hf
-    ∙ ap (λ (v : List ℕ). with_two d' (two t'.low_extent t'.high_extent v t.high)) hx
-    ∙ ap (λ (v : List ℕ). with_two d' (two t'.low_extent t'.high_extent t'.low v)) hy
+same_draw_and_states : (d d' : Draw) (e e' f f' : Extent) (x x' y y' : List ℕ) → d ≡ d' → e ≡ e' → f ≡ f' → x ≡ x' → y ≡ y' → with_two d (two e f x y) ≡ with_two d' (two e' f' x' y')
+same_draw_and_states d d' e e' f f' x x' y y' hd he hf hx hy = cc
 
 -- the same batch, so the same report
 doubled_same : (s : Setting) (d now : OpenDraw) (st : DrawAndStates) (T W : ℕ) → now.batch ≡ d.batch → T ≡ W → doubled_report s (open_machine now) st T ≡ doubled_report s (open_machine d) st W
@@ -62,14 +43,14 @@ module _ (s : Setting) (d now : OpenDraw) (t tn : Two) where
       let tried : ◌≡◌ {A = Report} (record { answer = given false; machine = open_machine after; low = ta.low; high = ta.high }) (try_report s before here (2 ^ k)) = rw t at doubled in
       let parts = and_parts _ _ t in
       let apart = sym (ap (λ (r : Report). r.answer) tried) in
-      let draw = ap out_draw (ap (λ (r : Report). r.machine.out) tried ∙ apart_draw s before here (2 ^ k) apart) in
+      let draw = same_draw _ _ (ap (λ (r : Report). r.machine.out) tried ∙ ap (λ (n : Machine). n.out) (apart_machine s before here (2 ^ k) apart)) in
       goes_on s before first k here (with_two (open_one after) ta) comes (ltb-true _ _ parts.0) (ltb-true _ _ parts.1) apart
-      (same_draw_and_states _ _ _ _ draw keeps.0 keeps.1 (ap (λ (r : Report). r.low) tried) (ap (λ (r : Report). r.high) tried)))
+      (same_draw_and_states _ _ _ _ _ _ _ _ _ _ draw keeps.0 keeps.1 (ap (λ (r : Report). r.low) tried) (ap (λ (r : Report). r.high) tried)))
       (λ (t : (ltb now.tried (2 ^ k) && ltb (2 ^ k) d.batch.stretch) ≡ false).
       let passed : ◌≡◌ {A = Report} (record { answer = given false; machine = open_machine after; low = ta.low; high = ta.high }) (record { answer = given false; machine = with_out before (open_draw here.draw); low = tn.low; high = tn.high }) = rw t at doubled in
-      let draw = ap (λ (r : Report). out_draw r.machine.out) passed in
+      let draw = same_draw _ _ (ap (λ (r : Report). r.machine.out) passed) in
       let on = passes s before first k here comes (λ larger below. both_ways _ t (and_from _ _ (lt-ltb _ _ larger) (lt-ltb _ _ below))) in
-      subst (ComesTo s before first (2 ^ (k + 1))) (sym (same_draw_and_states _ _ _ _ draw keeps.0 keeps.1 (ap (λ (r : Report). r.low) passed) (ap (λ (r : Report). r.high) passed))) on)
+      subst (ComesTo s before first (2 ^ (k + 1))) (sym (same_draw_and_states _ _ _ _ _ _ _ _ _ _ draw keeps.0 keeps.1 (ap (λ (r : Report). r.low) passed) (ap (λ (r : Report). r.high) passed))) on)
       (cases_Bool (ltb now.tried (2 ^ k) && ltb (2 ^ k) d.batch.stretch))
 
   pub early : (k T : ℕ) (report : Report) → T ≡ 2 ^ k → now.batch ≡ d.batch → ComesTo s before first (2 ^ k) here → report ≡ doubled_report s (open_machine now) here T → (report.answer ≡ given false → ⊥) → RunReports s before first report

@@ -1,22 +1,22 @@
 -- Every history with its runs as tries.
-use Rattle.std.proofs.Common.{◌≡◌, ℕ, ◌+◌, ◌^◌, ◌≤◌, Bool, true, false, cond, List, [], ◌∷◌, ◌++◌, sym, refl, ap, ◌∙◌, subst, inl, inr, arith}
+use Rattle.std.proofs.Common.{◌≡◌, ℕ, ◌+◌, ◌^◌, ◌≤◌, Bool, true, false, cond, List, [], ◌∷◌, ◌++◌, sym, refl, ap, ◌∙◌, subst, inl, inr}
 use Rattle.std.proofs.lemmas.Bool.{and_parts, leb-true}
 use Rattle.refusal.specs.Refusals.{Refusal, given, provided}
 use Rattle.batch.specs.Histories.{Event, Has, History, event}
-use Rattle.batch.specs.Machine.{Machine, Out, drawn, met_draw, new_machine, none, open_draw}
+use Rattle.batch.specs.Machine.{Machine, Out, drawn, new_machine, open_draw}
 use Rattle.batch.specs.Ends.{Two}
-use Rattle.batch.specs.Requests.{CarriesByDraw, Said, Response, said_apart, said_misplaced}
+use Rattle.batch.specs.Requests.{CarriesByDraw, Said, Response, said_apart, said_misplaced, states_kept}
 use Rattle.batch.specs.Tallies.{Tallies, TallyCountsTheCalls, TriesOfRun, Unrolls, UnrollsOne, how_many, is_closed, is_given_up, is_opened}
 use Rattle.batch.specs.Tries.{Setting, with_two}
 use Rattle.batch.specs.declared.stage.Request.{Request}
-use Rattle.batch.specs.declared.stage.Request.TheVariants.{Open, Try, Run, Close, GiveUp}
+use Rattle.batch.specs.declared.stage.Request.TheVariants.{Run}
 use Rattle.batch.proofs.Responses.{carried_stretch}
-use Rattle.batch.proofs.Tallies.{begins, is_run, new_is, tally_step}
+use Rattle.batch.proofs.Tallies.{begins, new_is, tally_step}
 use Rattle.batch.proofs.Unrolled.{run_as_tries}
 
 new_range : (stretch : ℕ) (m : Machine) (b : Bool) (c : Refusal) → provided b c (given (new_machine stretch)) ≡ given m → b ≡ true
 new_range stretch m true c e = refl
-new_range stretch m false c e = let z : ◌≡◌ {A = ℕ} 0 1 = cc in absurd (omega arith)
+new_range stretch m false c e = cc
 
 -- the stretch is from 1 to 2^20
 in_range : (s : Setting) (es : List Event) (m : Machine) → History s es m → (1 ≤ m.stretch) × (m.stretch ≤ 2 ^ 20)
@@ -32,18 +32,11 @@ in_range s (e ∷ es) m h =
 abbrev Goes_on : Setting → Request → Two → Response → List Event → Type 0
 Goes_on s q t sc gs = (fs : List Event) × UnrollsOne q (event q t sc) gs fs × History s fs sc.machine × Tallies fs sc.machine
 
--- a request that is no run is an event as it is
-plain : (s : Setting) (q : Request) (t : Two) (sc : Response) (m : Machine) (gs : List Event) → History s gs m → Tallies gs m → is_run q ≡ false → CarriesByDraw s t m m.out q sc → History s (event q t sc ∷ gs) sc.machine × Tallies (event q t sc ∷ gs) sc.machine
-plain s q t sc m gs history tallies no_run carries = ((m, history, carries, refl), tally_step s t gs m m.out q sc refl no_run carries tallies)
+no_tries : (s : Setting) (t : Two) (sc : Response) (m : Machine) (gs : List Event) → History s gs m → Tallies gs m → sc ≡ states_kept said_misplaced m t → Goes_on s Run t sc gs
+no_tries s t sc m gs history tallies is = rw is (gs, inl (refl, refl), history, tallies)
 
 -- a run is its tries, or nothing where it is misplaced
 run_on : (s : Setting) (t : Two) (sc : Response) (m : Machine) (o : Out) (gs : List Event) → m.out ≡ o → History s gs m → Tallies gs m → CarriesByDraw s t m o Run sc → Goes_on s Run t sc gs
-run_on s t sc m none gs out history tallies is =
-    let same = sym (ap (λ (x : Response). x.machine) is) in
-    (gs, inl (ap (λ (x : Response). x.said) is, refl), subst (History s gs) same history, subst (Tallies gs) same tallies)
-run_on s t sc m (met_draw d) gs out history tallies is =
-    let same = sym (ap (λ (x : Response). x.machine) is) in
-    (gs, inl (ap (λ (x : Response). x.said) is, refl), subst (History s gs) same history, subst (Tallies gs) same tallies)
 run_on s t sc m (open_draw d) gs out history tallies run =
     let range = in_range s gs m history in
     let tries = run_as_tries s m (with_two d t) gs out history tallies range.0 range.1 run.0 run.1 in
@@ -58,13 +51,11 @@ run_on s t sc m (open_draw d) gs out history tallies run =
       subst (History s all) same tries.2,
       subst (Tallies all) same tries.3,
     )
+run_on s t sc m o gs out history tallies is = no_tries s t sc m gs history tallies is
 
 goes_on : (s : Setting) (q : Request) (t : Two) (sc : Response) (m : Machine) (gs : List Event) → History s gs m → Tallies gs m → CarriesByDraw s t m m.out q sc → Goes_on s q t sc gs
-goes_on s Open t sc m gs history tallies carries = let p = plain s Open t sc m gs history tallies refl carries in (event Open t sc ∷ gs, refl, p.0, p.1)
-goes_on s (Try T) t sc m gs history tallies carries = let p = plain s (Try T) t sc m gs history tallies refl carries in (event (Try T) t sc ∷ gs, refl, p.0, p.1)
 goes_on s Run t sc m gs history tallies carries = run_on s t sc m m.out gs refl history tallies carries
-goes_on s Close t sc m gs history tallies carries = let p = plain s Close t sc m gs history tallies refl carries in (event Close t sc ∷ gs, refl, p.0, p.1)
-goes_on s GiveUp t sc m gs history tallies carries = let p = plain s GiveUp t sc m gs history tallies refl carries in (event GiveUp t sc ∷ gs, refl, p.0, p.1)
+goes_on s q t sc m gs history tallies carries = (event q t sc ∷ gs, refl, (m, history, carries, refl), tally_step s t gs m m.out q sc refl refl carries tallies)
 
 unrolled : (s : Setting) (es : List Event) (m : Machine) → History s es m → (fs : List Event) × Unrolls es fs × History s fs m × Tallies fs m
 unrolled s [] m h = ([], refl, h, begins h.0 m h.1)
@@ -94,10 +85,7 @@ tries_add p none_Apart stretch tried sc (e ∷ ts) gs tries =
 one_kept : (p : Said → Bool) → p said_apart ≡ false → p said_misplaced ≡ false → (q : Request) (t : Two) (sc : Response) (gs fs : List Event) → UnrollsOne q (event q t sc) gs fs → how_many p fs ≡ one_more p sc.said (how_many p gs)
 one_kept p none_Apart none_misplaced Run t sc gs fs (inl h) = ap (how_many p) h.1 ∙ sym (rw (ap p h.0 ∙ none_misplaced) refl)
 one_kept p none_Apart none_misplaced Run t sc gs fs (inr h) = ap (how_many p) h.2 ∙ tries_add p none_Apart _ _ sc h.0 gs h.1
-one_kept p none_Apart none_misplaced Open t sc gs fs is = ap (how_many p) is
-one_kept p none_Apart none_misplaced (Try T) t sc gs fs is = ap (how_many p) is
-one_kept p none_Apart none_misplaced Close t sc gs fs is = ap (how_many p) is
-one_kept p none_Apart none_misplaced GiveUp t sc gs fs is = ap (how_many p) is
+one_kept p none_Apart none_misplaced q t sc gs fs is = ap (how_many p) is
 
 -- with tries in place of runs the counts are the same
 count_kept : (p : Said → Bool) → p said_apart ≡ false → p said_misplaced ≡ false → (es fs : List Event) → Unrolls es fs → how_many p fs ≡ how_many p es

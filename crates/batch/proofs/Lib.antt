@@ -1,5 +1,4 @@
 mod Accepted
-mod Attempts
 mod Climbs
 mod Counted
 mod Exact

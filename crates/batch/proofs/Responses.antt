@@ -1,10 +1,10 @@
 -- What a request that was answered met or apart has found, and that no request changes the stretch.
-use Rattle.std.proofs.Common.{◌≡◌, ℕ, ◌≤◌, Bool, true, false, ltb, ◌⊎◌, List, sym, refl, ap, ◌∙◌, subst, inl, inr, ⊎_elim, arith}
+use Rattle.std.proofs.Common.{◌≡◌, ℕ, ◌≤◌, Bool, true, false, ltb, ◌⊎◌, List, sym, refl, ap, ◌∙◌, inl, inr, ⊎_elim, arith}
 use Rattle.std.proofs.lemmas.Bool.{both_ways, cases_Bool}
 use Rattle.coupling.proofs.Filled.{window_is_words}
 use Rattle.coupling.proofs.Samples.{larger_windows}
 use Rattle.coupling.proofs.Sandwich.{apart_where_some_differ, meets_where_all_end}
-use Rattle.coupling.specs.Ends.{AllEndIn, SomeEndApart}
+use Rattle.coupling.specs.Ends.{AllEndIn}
 use Rattle.coupling.specs.Lead.{Ends, apart_at, met_in, outcome}
 use Rattle.coupling.specs.Windows.{CanFill}
 use Rattle.lattice.specs.Faults.{state_refusal}
@@ -22,7 +22,7 @@ use Rattle.batch.specs.Tallies.{window_of}
 use Rattle.batch.specs.Histories.{Event, event, is_tried}
 use Rattle.batch.specs.Tries.{Report, Setting, DrawAndStates, ends_report, owned, refused_report, report_of, tried_to, try_report, words_of_try, with_two}
 use Rattle.batch.specs.declared.stage.Request.{Request}
-use Rattle.batch.specs.declared.stage.Request.TheVariants.{Open, Try, Run, Close, GiveUp}
+use Rattle.batch.specs.declared.stage.Request.TheVariants.{Open, Try, Run, Close}
 use Rattle.batch.proofs.Accepted.{accepted_report, accepted_when, which}
 
 abbrev pub Exact : Setting → ℕ → Event → Type 0
@@ -60,21 +60,19 @@ module _ (s : Setting) (ordered : Ordered s.rule) (bounded : Bounded s.rule) (cl
   ends_exact q t m d T (met_in y) window fills e =
       let arrives = arrives_in m.stretch d T y e in (
         λ _. record { draw = tried_to d T; out = refl; window = window; fills = fills; both = refl; by_words = e; arrives = arrives },
-        λ apart. let z : ◌≡◌ {A = ℕ} 0 1 = cc in absurd (omega arith),
+        λ apart. cc,
         λ _ c out.
-            let same : tried_to d T ≡ c = cc in
+            let same : c ≡ tried_to d T = cc in
             let all = arrives T (omega arith) fills in
-            subst (λ (x : Draw). (said_met ≡ said_apart → SomeEndApart s.rule (words_of s m.stretch x x.tried)) × (SomeEndApart s.rule (words_of s m.stretch x x.tried) → said_met ≡ said_apart)) same
-            (λ apart. let z : ◌≡◌ {A = ℕ} 0 1 = cc in absurd (omega arith), λ apart. absurd (apart.4 (all apart.0 apart.2 ∙ sym (all apart.1 apart.3)))),
+            rw same (λ apart. cc, λ apart. absurd (apart.4 (all apart.0 apart.2 ∙ sym (all apart.1 apart.3)))),
       )
   ends_exact q t m d T (apart_at x y) window fills e =
       let differ = (apart_where_some_differ s.rule ordered bounded closed monotone (words_of s m.stretch d T) (window_is_words s.source sound m.stretch d.number T fills)).0 x y e in (
-        λ met. let z : ◌≡◌ {A = ℕ} 0 1 = cc in absurd (omega arith),
+        λ met. cc,
         λ _. record { draw = tried_to d T; out = refl; window = window; fills = fills; by_words = e },
         λ _ c out.
-            let same : tried_to d T ≡ c = cc in
-            subst (λ (x : Draw). (said_apart ≡ said_apart → SomeEndApart s.rule (words_of s m.stretch x x.tried)) × (SomeEndApart s.rule (words_of s m.stretch x x.tried) → said_apart ≡ said_apart)) same
-            (λ _. differ, λ _. refl),
+            let same : c ≡ tried_to d T = cc in
+            rw same (λ _. differ, λ _. refl),
       )
 
   -- a try, of the window that its request names
@@ -83,7 +81,7 @@ module _ (s : Setting) (ordered : Ordered s.rule) (bounded : Bounded s.rule) (cl
       ⊎_elim
       (λ (w : (ws : List ℕ) × (given ws ≡ words_of_try s m st T)).
       let a = (accepted_when s m st T w.0 w.1).0 in
-      subst (λ (x : Response). Exact s m.stretch (event q t x)) (sym (is ∙ ap reported (accepted_report s m st T a))) (ends_exact q t m st.draw T _ window a.fills refl))
+      rw (is, accepted_report s m st T a) (ends_exact q t m st.draw T _ window a.fills refl))
       (λ (w : (c : Refusal) × (refused c ≡ words_of_try s m st T)).
       let report = ap (report_of s m st T) (sym w.1) in
       quiet s m.stretch (event q t sc) (ap (λ (x : Response). is_tried x.said) (is ∙ ap reported report)))
@@ -105,20 +103,10 @@ module _ (s : Setting) (ordered : Ordered s.rule) (bounded : Bounded s.rule) (cl
 
   pub carried_exact : (t : Two) (m : Machine) (o : Out) (q : Request) (sc : Response) → CarriesByDraw s t m o q sc → Exact s m.stretch (event q t sc)
   carried_exact t m none Open sc is = beside Open m.stretch sc _ _ t (no_try_in_open (open_answer m)) is
-  carried_exact t m none (Try T) sc is = beside (Try T) m.stretch sc _ _ t refl is
-  carried_exact t m none Run sc is = beside Run m.stretch sc _ _ t refl is
-  carried_exact t m none Close sc is = beside Close m.stretch sc _ _ t refl is
-  carried_exact t m none GiveUp sc is = beside GiveUp m.stretch sc _ _ t refl is
-  carried_exact t m (open_draw d) Open sc is = beside Open m.stretch sc _ _ t refl is
   carried_exact t m (open_draw d) (Try T) sc is = try_exact (Try T) t m (with_two d t) T sc (λ U e. ap window_of e) is
   carried_exact t m (open_draw d) Run sc h = run_exact t m (with_two d t) h.0 sc h.1 h.2
-  carried_exact t m (open_draw d) Close sc is = beside Close m.stretch sc _ _ t refl is
-  carried_exact t m (open_draw d) GiveUp sc is = beside GiveUp m.stretch sc _ _ t refl is
-  carried_exact t m (met_draw d) Open sc is = beside Open m.stretch sc _ _ t refl is
-  carried_exact t m (met_draw d) (Try T) sc is = beside (Try T) m.stretch sc _ _ t refl is
-  carried_exact t m (met_draw d) Run sc is = beside Run m.stretch sc _ _ t refl is
   carried_exact t m (met_draw d) Close sc is = beside Close m.stretch sc _ _ t refl is
-  carried_exact t m (met_draw d) GiveUp sc is = beside GiveUp m.stretch sc _ _ t refl is
+  carried_exact t m o q sc is = beside q m.stretch sc _ _ t refl is
 
 ends_stretch : (m : Machine) (d : Draw) (T : ℕ) (ends : Ends) → (ends_report m d T ends).machine.stretch ≡ m.stretch
 ends_stretch m d T (met_in y) = refl
@@ -145,17 +133,7 @@ open_stretch m false c = refl
 -- no request changes the stretch
 pub carried_stretch : (s : Setting) (t : Two) (m : Machine) (o : Out) (q : Request) (sc : Response) → CarriesByDraw s t m o q sc → sc.machine.stretch ≡ m.stretch
 carried_stretch s t m none Open sc is = ap (λ (x : Response). x.machine.stretch) is ∙ open_stretch m _ _
-carried_stretch s t m none (Try T) sc is = ap (λ (x : Response). x.machine.stretch) is
-carried_stretch s t m none Run sc is = ap (λ (x : Response). x.machine.stretch) is
-carried_stretch s t m none Close sc is = ap (λ (x : Response). x.machine.stretch) is
-carried_stretch s t m none GiveUp sc is = ap (λ (x : Response). x.machine.stretch) is
-carried_stretch s t m (open_draw d) Open sc is = ap (λ (x : Response). x.machine.stretch) is
 carried_stretch s t m (open_draw d) (Try T) sc is = ap (λ (x : Response). x.machine.stretch) is ∙ try_stretch s m (with_two d t) T
 carried_stretch s t m (open_draw d) Run sc h = ap (λ (x : Response). x.machine.stretch) h.2 ∙ run_stretch s m (with_two d t) h.0 h.1
-carried_stretch s t m (open_draw d) Close sc is = ap (λ (x : Response). x.machine.stretch) is
-carried_stretch s t m (open_draw d) GiveUp sc is = ap (λ (x : Response). x.machine.stretch) is
-carried_stretch s t m (met_draw d) Open sc is = ap (λ (x : Response). x.machine.stretch) is
-carried_stretch s t m (met_draw d) (Try T) sc is = ap (λ (x : Response). x.machine.stretch) is
-carried_stretch s t m (met_draw d) Run sc is = ap (λ (x : Response). x.machine.stretch) is
-carried_stretch s t m (met_draw d) Close sc is = ap (λ (x : Response). x.machine.stretch) is
-carried_stretch s t m (met_draw d) GiveUp sc is = ap (λ (x : Response). x.machine.stretch) is
+carried_stretch s t m (met_draw d) Close sc is = rw is
+carried_stretch s t m o q sc is = rw is

@@ -2,20 +2,18 @@
 use Rattle.std.proofs.Common.{◌≡◌, ℕ, zero, suc, ◌+◌, ◌^◌, ◌<◌, ◌≤◌, true, false, ◌&&◌, ltb, ◌⊎◌, List, [], ◌∷◌, ◌++◌, sym, refl, ap, ◌∙◌, subst, inl, inr, ⊎_elim, arith}
 use Rattle.std.proofs.lemmas.Nat.{pow_below}
 use Rattle.std.proofs.lemmas.Bool.{and_from, and_parts, both_ways, cases_Bool, le-leb, lt-ltb, ltb-true}
-use Rattle.coupling.specs.Lead.{Ends, apart_at, met_in}
 use Rattle.coupling.specs.Windows.{CanFill}
 use Rattle.lattice.specs.Faults.{state_refusal}
 use Rattle.lattice.specs.declared.fault.StateFault.TheVariants.{Foreign}
-use Rattle.refusal.specs.Refusals.{given}
 use Rattle.batch.specs.Faults.{tried_refusal}
 use Rattle.batch.specs.Histories.{Event, Has, History, event}
-use Rattle.batch.specs.Machine.{Draw, Machine, open_draw, with_out}
+use Rattle.batch.specs.Machine.{Machine, open_draw, with_out}
 use Rattle.batch.specs.Requests.{reported, said_try}
 use Rattle.batch.specs.Runs.{AnswersApart, ComesTo, Doubled, EndsAt, LeftBefore, RunReports, left_apart}
 use Rattle.batch.specs.Tallies.{DoubledTries, Tallies, TriesOfRun}
-use Rattle.batch.specs.Tries.{Report, Setting, DrawAndStates, ends_report, owned, refused_report, tried_to, try_report}
+use Rattle.batch.specs.Tries.{Report, Setting, DrawAndStates, owned, refused_report, try_report}
 use Rattle.batch.specs.declared.stage.Request.TheVariants.{Try}
-use Rattle.batch.proofs.Accepted.{Accepted, accepted_report, answered, same_report}
+use Rattle.batch.proofs.Accepted.{Accepted, answered, apart_machine, same_report}
 use Rattle.batch.proofs.Runs.{goes_on, next_power, not_doubled, number_kept, own_kept, passes, starts, to_stretch, tried_up}
 use Rattle.batch.proofs.Tallies.{same_out, try_step}
 
@@ -27,15 +25,6 @@ left_once s m st T a b (inr h) (inl k) = absurd (k.0 h.0 h.1.doubled h.1.under)
 left_once s m st T a b (inr h) (inr k) =
     let same : h.0 ≡ k.0 = omega (arith, h.1.greatest k.0 k.1.doubled k.1.under, k.1.greatest h.0 h.1.doubled h.1.under) in
     h.2 ∙ ap (left_apart s m st) same ∙ sym k.2
-
-apart_ends : (m : Machine) (d : Draw) (T : ℕ) (ends : Ends) → (ends_report m d T ends).answer ≡ given false → (ends_report m d T ends).machine ≡ with_out m (open_draw (tried_to d T))
-apart_ends m d T (met_in y) e = let z : ◌≡◌ {A = ℕ} 0 1 = cc in absurd (omega arith)
-apart_ends m d T (apart_at x y) e = refl
-
-apart_machine : (s : Setting) (m : Machine) (st : DrawAndStates) (T : ℕ) → AnswersApart s m st T → (try_report s m st T).machine ≡ with_out m (open_draw (tried_to st.draw T))
-apart_machine s m st T apart =
-    let report = accepted_report s m st T (answered s m st T false apart) in
-    ap (λ (r : Report). r.machine) report ∙ apart_ends m st.draw T _ (sym (ap (λ (r : Report). r.answer) report) ∙ apart)
 
 module _ (s : Setting) (m : Machine) (st : DrawAndStates) (gs : List Event) where
   -- the tries up to a power of two

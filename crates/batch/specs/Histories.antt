@@ -4,7 +4,7 @@ use Rattle.std.specs.Prelude.{◌≡◌, ℕ, Bool, true, false, ◌⊎◌, List
 use Rattle.refusal.specs.Refusals.{given}
 use Rattle.batch.specs.Ends.{Two}
 use Rattle.batch.specs.Machine.{Machine, new_answer}
-use Rattle.batch.specs.Requests.{Carries, Said, Response, said_apart, said_closed, said_given_up, said_met, said_misplaced, said_opened, said_refused}
+use Rattle.batch.specs.Requests.{Carries, Said, Response, said_apart, said_met}
 use Rattle.batch.specs.Tries.{Setting}
 use Rattle.batch.specs.declared.stage.Request.{Request}
 
@@ -29,10 +29,6 @@ Has (f ∷ es) e = (e ≡ f) ⊎ Has es e
 
 -- Whether an answer is that of an accepted try or run.
 abbrev pub is_tried : Said → Bool
-is_tried said_opened = false
 is_tried said_met = true
 is_tried said_apart = true
-is_tried said_closed = false
-is_tried said_given_up = false
-is_tried (said_refused c) = false
-is_tried said_misplaced = false
+is_tried _ = false

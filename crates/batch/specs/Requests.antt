@@ -48,24 +48,17 @@ reported r = response (said_try r.answer) r.machine r.low r.high
 -- given up.
 abbrev pub WhenIdle : Two → Machine → Request → Response → Type 0
 WhenIdle t m Open sc = sc ≡ states_kept (said_open (open_answer m)) (left_after (open_answer m) m) t
-WhenIdle t m (Try T) sc = sc ≡ states_kept said_misplaced m t
-WhenIdle t m Run sc = sc ≡ states_kept said_misplaced m t
-WhenIdle t m Close sc = sc ≡ states_kept said_misplaced m t
-WhenIdle t m GiveUp sc = sc ≡ states_kept said_misplaced m t
+WhenIdle t m _ sc = sc ≡ states_kept said_misplaced m t
 
 abbrev pub WhenOpen : Setting → Two → Machine → Draw → Request → Response → Type 0
-WhenOpen s t m d Open sc = sc ≡ states_kept said_misplaced m t
 WhenOpen s t m d (Try T) sc = sc ≡ reported (try_report s m (with_two d t) T)
 WhenOpen s t m d Run sc = (report : Report) × RunReports s m (with_two d t) report × (sc ≡ reported report)
-WhenOpen s t m d Close sc = sc ≡ states_kept said_misplaced m t
 WhenOpen s t m d GiveUp sc = sc ≡ states_kept said_given_up (one_given_up m) t
+WhenOpen s t m d _ sc = sc ≡ states_kept said_misplaced m t
 
 abbrev pub WhenMet : Two → Machine → Request → Response → Type 0
-WhenMet t m Open sc = sc ≡ states_kept said_misplaced m t
-WhenMet t m (Try T) sc = sc ≡ states_kept said_misplaced m t
-WhenMet t m Run sc = sc ≡ states_kept said_misplaced m t
 WhenMet t m Close sc = sc ≡ states_kept said_closed (one_closed m) t
-WhenMet t m GiveUp sc = sc ≡ states_kept said_misplaced m t
+WhenMet t m _ sc = sc ≡ states_kept said_misplaced m t
 
 abbrev pub CarriesByDraw : Setting → Two → Machine → Out → Request → Response → Type 0
 CarriesByDraw s t m none request sc = WhenIdle t m request sc

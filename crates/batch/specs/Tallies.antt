@@ -2,49 +2,29 @@
 use Rattle.std.specs.Prelude.{◌≡◌, ℕ, ◌+◌, ◌<◌, Bool, true, false, cond, ◌⊎◌, List, [], ◌∷◌, ◌++◌, Some, nat_lt}
 use Rattle.batch.specs.Histories.{Event, Has, History, is_tried}
 use Rattle.batch.specs.Machine.{Draw, Machine, drawn, met_draw, none, open_draw}
-use Rattle.batch.specs.Requests.{Said, Response, said_apart, said_closed, said_given_up, said_met, said_misplaced, said_opened, said_refused}
+use Rattle.batch.specs.Requests.{Said, Response, said_apart, said_closed, said_given_up, said_met, said_misplaced, said_opened}
 use Rattle.batch.specs.Runs.{Doubled}
 use Rattle.batch.specs.Tries.{Setting}
 use Rattle.batch.specs.declared.stage.Request.{Request}
-use Rattle.batch.specs.declared.stage.Request.TheVariants.{Open, Try, Run, Close, GiveUp}
+use Rattle.batch.specs.declared.stage.Request.TheVariants.{Try, Run}
 
 -- Whether an answer is that of an accepted open, of a close, of a give-up.
 abbrev pub is_opened : Said → Bool
 is_opened said_opened = true
-is_opened said_met = false
-is_opened said_apart = false
-is_opened said_closed = false
-is_opened said_given_up = false
-is_opened (said_refused c) = false
-is_opened said_misplaced = false
+is_opened _ = false
 
 abbrev pub is_closed : Said → Bool
-is_closed said_opened = false
-is_closed said_met = false
-is_closed said_apart = false
 is_closed said_closed = true
-is_closed said_given_up = false
-is_closed (said_refused c) = false
-is_closed said_misplaced = false
+is_closed _ = false
 
 abbrev pub is_given_up : Said → Bool
-is_given_up said_opened = false
-is_given_up said_met = false
-is_given_up said_apart = false
-is_given_up said_closed = false
 is_given_up said_given_up = true
-is_given_up (said_refused c) = false
-is_given_up said_misplaced = false
+is_given_up _ = false
 
 -- Whether it is that of a try or run that met.
 abbrev pub is_met : Said → Bool
-is_met said_opened = false
 is_met said_met = true
-is_met said_apart = false
-is_met said_closed = false
-is_met said_given_up = false
-is_met (said_refused c) = false
-is_met said_misplaced = false
+is_met _ = false
 
 -- How many events have such an answer.
 abbrev pub how_many : (Said → Bool) → List Event → ℕ
@@ -62,11 +42,8 @@ before_open (e ∷ es) = cond (is_opened e.response.said) es (before_open es)
 
 -- The window that a request names.
 abbrev pub window_of : Request → ℕ
-window_of Open = 0
 window_of (Try T) = T
-window_of Run = 0
-window_of Close = 0
-window_of GiveUp = 0
+window_of _ = 0
 
 abbrev pub larger_of : ℕ → ℕ → ℕ
 larger_of a b = cond (nat_lt a b) b a
@@ -115,10 +92,7 @@ abbrev pub UnrollsOne : Request → Event → (older newer : List Event) → Typ
 UnrollsOne Run e older newer =
     ((e.response.said ≡ said_misplaced) × (newer ≡ older))
     ⊎ ((ts : List Event) × TriesOfRun e.response.machine.stretch (greatest_tried (since_open older)) e.response ts × (newer ≡ ts ++ older))
-UnrollsOne Open e older newer = newer ≡ e ∷ older
-UnrollsOne (Try T) e older newer = newer ≡ e ∷ older
-UnrollsOne Close e older newer = newer ≡ e ∷ older
-UnrollsOne GiveUp e older newer = newer ≡ e ∷ older
+UnrollsOne q e older newer = newer ≡ e ∷ older
 
 -- The same events, with tries in place of runs.
 abbrev pub Unrolls : List Event → List Event → Type 0

@@ -91,9 +91,9 @@ fn tell_unfilled<F: Cause + Drop>(
 {
     let before = numbers.len();
     numbers.extend_from_slice(&[25, unfilled.number, unfilled.window])?;
-    if let Err(error) = unfilled.cause.tell(numbers) {
+    let told = unfilled.cause.tell(numbers);
+    if told.is_err() {
         numbers.truncate(before);
-        return Err(error);
     }
-    Ok(())
+    told
 }

@@ -18,7 +18,6 @@ use crate::fault::{Fault, Full};
 use crate::outcome::Outcome;
 use crate::setting::Setting;
 use crate::stage::{Drawn, Reply, Request, Stage};
-use coupling::shares_are_equal;
 use lattice::even::Even;
 use lattice::kind::Kind;
 use sources::source::Source;
@@ -58,7 +57,6 @@ impl Stage {
         ensures holds { HoldsInEveryHistory (setting_of K.Kind S.Source setting.now) }
         ensures keeps { SameExtents ends.old ends.new }
     {
-        setting.source.sound();
         self.step(request, setting, ends)
     }
 
@@ -75,7 +73,6 @@ impl Stage {
         ensures shares { EqualShares (E.meaning setting.now.rule.now) }
         ensures keeps { SameExtents ends.old ends.new }
     {
-        shares_are_equal(setting.rule);
         self.carry_out(request, setting, ends)
     }
 
@@ -90,14 +87,8 @@ impl Stage {
     {
         match (self, request) {
             (Stage::Idle(batch), Request::Open) => match batch.open() {
-                Ok(opened) => {
-                    let (draw, token) = opened;
-                    (Stage::Open(draw, token), Reply::Opened)
-                }
-                Err(full) => {
-                    let Full { batch } = full;
-                    (Stage::Idle(batch), Reply::Refused(Fault::Full))
-                }
+                Ok((draw, token)) => (Stage::Open(draw, token), Reply::Opened),
+                Err(Full { batch }) => (Stage::Idle(batch), Reply::Refused(Fault::Full)),
             },
             (Stage::Open(draw, token), Request::Try(window)) => {
                 settled(draw.try_window(setting, window, ends), token)

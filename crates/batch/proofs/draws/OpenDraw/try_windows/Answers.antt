@@ -12,15 +12,12 @@ use Rattle.batch.proofs.draws.OpenDraw.try_windows.Goals as goal
 renamed : {F : Type 0} (why : F → Refusal) (d : OpenDraw) (x y : List ℕ) (q r : Result Bool (Fault F)) (report : Report) → q ≡ r → result_report why r d x y ≡ report → result_report why q d x y ≡ report
 renamed why d x y q r report same reports = ap (λ (z : Result Bool (Fault _)). result_report why z d x y) same ∙ reports
 
-met_is_not_apart : given true ≡ given false → ⊥
-met_is_not_apart e = let z : ◌≡◌ {A = ℕ} 0 1 = cc in omega arith
-
 err_same : {T E : Type 0} (r : Result T E) (e : E) → IsErrAnd r (λ x. x ≡ e) → r ≡ Err e
 err_same (Ok x) e h = absurd h
 err_same (Err x) e h = ap (λ z. Err z) h
 
 refused_is_not_apart : (c : Refusal) → ◌≡◌ {A = Answer Bool} (refused c) (given false) → ⊥
-refused_is_not_apart c e = let z : ◌≡◌ {A = ℕ} 0 1 = cc in omega arith
+refused_is_not_apart c e = cc
 
 pub returns-in_err-try_doubled-clause-reports : goal.returns-in_err-try_doubled-clause-reports
 returns-in_err-try_doubled-clause-reports g c =
@@ -38,7 +35,7 @@ returns-then-branch-clause-reports g c =
     let met = ap (λ (b : Bool). Ok b) (sym c.if-branch.true) in
     early (setting_of g.K.Kind g.S.Source c.args.setting.now) c.args.self.now now.self c.args.ends.now now.ends now.exponent _ _ c.power_of_two.ensures now.invariant.1 now.invariant.0
     (renamed g.S.Fault.Cause.refusal _ _ _ (Ok true) _ _ met c.in_ok-try_doubled.ensures.reports)
-    met_is_not_apart
+    (λ apart. cc)
 
 pub loop-exponent-preserved : goal.loop-exponent-preserved
 loop-exponent-preserved g c =
