@@ -1,40 +1,31 @@
 -- One word cut from the front of a text.
 use Rattle.std.proofs.Common.{◌≡◌, ℕ, ◌+◌, ◌<◌, Bool, true, false, cond, List, [], ◌∷◌, length, take, drop, filter, sym, refl, ap, ◌∙◌, inl, inr, one-add, arith}
 use Rattle.std.proofs.lemmas.Bool.{cases_Bool}
-use Rattle.std.specs.List.{prefix_len}
+use Rattle.std.specs.List.{prefix_len, take_while}
 use Rattle.task.specs.Text.{blank, solid, past, pieces, some, words, after_word}
 
--- The leading bytes that pass the test.
-abbrev pub lead : (ℕ → Bool) → List ℕ → List ℕ
-lead test [] = []
-lead test (b ∷ bs) = cond (test b) (b ∷ lead test bs) []
-
 module _ (test : ℕ → Bool) where
-  pub take_leading : (bs : List ℕ) → take (prefix_len test bs) bs ≡ lead test bs
-  take_leading [] = refl
-  take_leading (b ∷ bs) = elim (test b) as (λ t. take (cond t (1 + prefix_len test bs) 0) (b ∷ bs) ≡ cond t (b ∷ lead test bs) [])
-      [ true ↦ rw (one-add, take_leading bs) | false ↦ refl ]
-
+  -- The leading bytes that pass the test, and what stands behind them.
   pub drop_leading : (bs : List ℕ) → drop (prefix_len test bs) bs ≡ past test bs
   drop_leading [] = refl
   drop_leading (b ∷ bs) = elim (test b) as (λ t. drop (cond t (1 + prefix_len test bs) 0) (b ∷ bs) ≡ cond t (past test bs) (b ∷ bs))
       [ true ↦ rw (one-add, drop_leading bs) | false ↦ refl ]
 
 -- The first piece, with the words of what follows it.
-pub step : (bs : List ℕ) → (ps : List (List ℕ)) × (pieces bs ≡ lead solid bs ∷ ps) × (filter some ps ≡ words (past solid bs))
+pub step : (bs : List ℕ) → (ps : List (List ℕ)) × (pieces bs ≡ take_while solid bs ∷ ps) × (filter some ps ≡ words (past solid bs))
 step [] = ([], refl, refl)
-step (b ∷ bs) = elim (cases_Bool (blank b)) [ inl e ↦ simp e (pieces bs, refl, refl) | inr e ↦ let h = step bs in simp e (h.0, rw h.1, h.2) ]
+step (b ∷ bs) = elim (cases_Bool (blank b)) [ inl e ↦ simp (e, one-add) (pieces bs, refl, refl) | inr e ↦ let h = step bs in simp (e, one-add) (h.0, rw h.1, h.2) ]
 
 pub words_past : (bs : List ℕ) → words (past blank bs) ≡ words bs
 words_past [] = refl
 words_past (b ∷ bs) = elim (cases_Bool (blank b)) [ inl e ↦ simp e (words_past bs) | inr e ↦ simp e ]
 
-none_left : (bs : List ℕ) → lead solid (past blank bs) ≡ [] → past blank bs ≡ []
+none_left : (bs : List ℕ) → take_while solid (past blank bs) ≡ [] → past blank bs ≡ []
 none_left [] none = refl
 none_left (b ∷ bs) none =
     elim (cases_Bool (blank b)) [
       | inl e ↦ simp e (none_left bs (simp e at none))
-      | inr e ↦ let h : b ∷ lead solid bs ≡ [] = simp e at none in let z : ◌≡◌ {A = ℕ} 0 1 = cc in absurd (omega arith)
+      | inr e ↦ let h : b ∷ take_while solid bs ≡ [] = simp (e, one-add) at none in let z : ◌≡◌ {A = ℕ} 0 1 = cc in absurd (omega arith)
     ]
 
 kept : (w : List ℕ) (ps : List (List ℕ)) → 0 < length w → filter some (w ∷ ps) ≡ w ∷ filter some ps
@@ -42,18 +33,18 @@ kept [] ps more = absurd (omega arith)
 kept (b ∷ w) ps more = refl
 
 -- A text with no word, and one with a word.
-pub no_word : (bs : List ℕ) → lead solid (past blank bs) ≡ [] → (words bs ≡ []) × (words (after_word bs) ≡ [])
+pub no_word : (bs : List ℕ) → take_while solid (past blank bs) ≡ [] → (words bs ≡ []) × (words (after_word bs) ≡ [])
 no_word bs none = let h = none_left bs none in (sym (words_past bs) ∙ ap words h, ap (λ t. words (past solid t)) h)
 
-pub a_word : (bs : List ℕ) → 0 < length (lead solid (past blank bs)) → words bs ≡ lead solid (past blank bs) ∷ words (after_word bs)
+pub a_word : (bs : List ℕ) → 0 < length (take_while solid (past blank bs)) → words bs ≡ take_while solid (past blank bs) ∷ words (after_word bs)
 a_word bs more =
     let h = step (past blank bs) in
-    sym (words_past bs) ∙ ap (filter some) h.1 ∙ kept (lead solid (past blank bs)) h.0 more ∙ ap (λ ws. lead solid (past blank bs) ∷ ws) h.2
+    sym (words_past bs) ∙ ap (filter some) h.1 ∙ kept (take_while solid (past blank bs)) h.0 more ∙ ap (λ ws. take_while solid (past blank bs) ∷ ws) h.2
 
 -- The word and what is left, as a cut at the first blank behind the leading ones gives them.
 module _ (bs text : List ℕ) (n : ℕ) (from : text ≡ past blank bs) (to : n ≡ prefix_len solid text) where
-  pub word_is : (w : List ℕ) → w ≡ take n text → w ≡ lead solid (past blank bs)
-  word_is w e = let h = take_leading solid text in cc
+  pub word_is : (w : List ℕ) → w ≡ take n text → w ≡ take_while solid (past blank bs)
+  word_is w e = cc
 
   pub rest_is : (rest : List ℕ) → rest ≡ drop n text → rest ≡ after_word bs
   rest_is rest e = let h = drop_leading solid text in cc

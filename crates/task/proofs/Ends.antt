@@ -1,14 +1,14 @@
 -- What stands past the blanks, from the front and from the back.
-use Rattle.std.proofs.Common.{◌≡◌, ℕ, ◌-◌, ◌≤◌, Bool, List, [], ◌∷◌, ◌++◌, length, take, drop, reverse, sym, refl, ap, ◌∙◌, inl, inr, arith}
+use Rattle.std.proofs.Common.{◌≡◌, ℕ, ◌-◌, ◌≤◌, Bool, List, [], ◌∷◌, ◌++◌, length, take, drop, reverse, sym, refl, ap, ◌∙◌, inl, inr, one-add, arith}
 use Rattle.std.proofs.ByRecursion.{All-push}
 use Rattle.std.proofs.Math.Seq.{drop-append_seam}
 use Rattle.std.proofs.lemmas.List.{length-drop, length-reverse, reverse-append, reverse-reverse, take-append-drop, take_rest}
 use Rattle.std.proofs.lemmas.List.Sums.{prefix_len-le-length}
 use Rattle.std.proofs.lemmas.Bool.{cases_Bool}
-use Rattle.std.specs.List.{AllByRecursion, prefix_len}
+use Rattle.std.specs.List.{AllByRecursion, prefix_len, take_while}
 use Rattle.task.specs.Laws.{Blank, Solid, Trims}
 use Rattle.task.specs.Text.{blank, past, trimmed}
-use Rattle.task.proofs.Cuts.{drop_leading, lead}
+use Rattle.task.proofs.Cuts.{drop_leading}
 
 -- All but the last k elements.
 reverse_drop : (xs : List ℕ) (k : ℕ) → k ≤ length xs → reverse (drop k (reverse xs)) ≡ take (length xs - k) xs
@@ -35,13 +35,12 @@ all_reverse P [] h = tt
 all_reverse P (x ∷ xs) h = rw (reverse-append (x ∷ []) xs) (All-push P (reverse xs) x (all_reverse P xs h.1) h.0)
 
 -- The leading blanks, and what stands past them.
-lead_past : (bs : List ℕ) → bs ≡ lead blank bs ++ past blank bs
-lead_past [] = refl
-lead_past (b ∷ bs) = elim (cases_Bool (blank b)) [ inl e ↦ simp e (ap (λ t. b ∷ t) (lead_past bs)) | inr e ↦ simp e ]
+lead_past : (bs : List ℕ) → bs ≡ take_while blank bs ++ past blank bs
+lead_past bs = sym (take-append-drop (prefix_len blank bs) bs) ∙ ap (λ t. take_while blank bs ++ t) (drop_leading blank bs)
 
-all_lead : (bs : List ℕ) → AllByRecursion Blank (lead blank bs)
+all_lead : (bs : List ℕ) → AllByRecursion Blank (take_while blank bs)
 all_lead [] = tt
-all_lead (b ∷ bs) = elim (cases_Bool (blank b)) [ inl e ↦ simp e (refl, all_lead bs) | inr e ↦ simp e tt ]
+all_lead (b ∷ bs) = elim (cases_Bool (blank b)) [ inl e ↦ simp (e, one-add) (refl, all_lead bs) | inr e ↦ simp (e, one-add) tt ]
 
 past_begins : (bs : List ℕ) (b : ℕ) (us : List ℕ) → past blank bs ≡ b ∷ us → Solid b
 past_begins [] b us e = let z : ◌≡◌ {A = ℕ} 0 1 = cc in absurd (omega arith)
@@ -51,17 +50,20 @@ past_begins (x ∷ bs) b us e =
       | inr no' ↦ let h : x ∷ bs ≡ b ∷ us = simp no' at e in let same : x ≡ b = cc in rw same at no'
     ]
 
-pub trims : (bs : List ℕ) → Trims bs (trimmed bs)
+trims : (bs : List ℕ) → Trims bs (trimmed bs)
 trims bs =
     let s = past blank bs in
     let back = lead_past (reverse s) in
-    let whole : s ≡ trimmed bs ++ reverse (lead blank (reverse s)) = sym (reverse-reverse s) ∙ ap reverse back ∙ reverse-append (lead blank (reverse s)) (past blank (reverse s)) in
+    let whole : s ≡ trimmed bs ++ reverse (take_while blank (reverse s)) = sym (reverse-reverse s) ∙ ap reverse back ∙ reverse-append (take_while blank (reverse s)) (past blank (reverse s)) in
     record {
-      before = lead blank bs;
-      after = reverse (lead blank (reverse s));
-      whole = lead_past bs ∙ ap (λ t. lead blank bs ++ t) whole;
+      before = take_while blank bs;
+      after = reverse (take_while blank (reverse s));
+      whole = lead_past bs ∙ ap (λ t. take_while blank bs ++ t) whole;
       blank_before = all_lead bs;
-      blank_after = all_reverse Blank (lead blank (reverse s)) (all_lead (reverse s));
-      begins = λ b us e. past_begins bs b (us ++ reverse (lead blank (reverse s))) (whole ∙ ap (λ t. t ++ reverse (lead blank (reverse s))) e);
+      blank_after = all_reverse Blank (take_while blank (reverse s)) (all_lead (reverse s));
+      begins = λ b us e. past_begins bs b (us ++ reverse (take_while blank (reverse s))) (whole ∙ ap (λ t. t ++ reverse (take_while blank (reverse s))) e);
       ends = λ us b e. past_begins (reverse s) b (reverse us) (sym (reverse-reverse (past blank (reverse s))) ∙ ap reverse e ∙ reverse-append us (b ∷ []));
     }
+
+pub trimmed_text : (bs t : List ℕ) → t ≡ trimmed bs → Trims bs t
+trimmed_text bs t e = rw e (trims bs)

@@ -1,23 +1,59 @@
 -- Bytes read from hex, one after another.
-use Rattle.std.proofs.Common.{◌≡◌, ℕ, ◌+◌, ◌*◌, ◌/◌, ◌%◌, ◌<◌, List, [], ◌∷◌, ◌++◌, map, Some, None, codes, Option, refl, ap, inl, inr, arith}
+use Rattle.std.proofs.Common.{◌≡◌, ℕ, ◌+◌, ◌*◌, ◌/◌, ◌%◌, ◌<◌, Bool, false, List, [], ◌∷◌, map, length, Some, None, Ok, Err, codes, Option, Result, refl, sym, ap, ◌∙◌, inl, inr, arith}
 use Rattle.std.proofs.lemmas.Slice.Eq.{bytes_eq-Decides}
-use Rattle.std.proofs.lemmas.List.{append_assoc}
-use Rattle.std.proofs.lemmas.Bool.{cases_Bool}
+use Rattle.std.proofs.lemmas.Bool.{cases_Bool, cases_eq}
 use Rattle.std.proofs.lemmas.Bool.Decides.{nat_tests, not_from_Decides}
 use Rattle.std.specs.Str.{bytes_eq}
 use Rattle.std.specs.Char.{digit_char, to_ascii_lowercase}
 use Rattle.std.specs.List.{AllByRecursion}
 use Rattle.task.specs.Laws.{hex_text, ReadsHex}
+use Rattle.std.specs.Bool.{then_some}
 use Rattle.std.specs.Option.{option_map}
+use Rattle.std.specs.Result.{MatchResult, is_ok, result_ok}
+use Rattle.hex.specs.Hex.{decode_pairs, decode_sized, digit_or_error, hex_digit_value, ◌>>=◌}
+use Rattle.hex.specs.declared.error.FromHexError.{FromHexError}
+use Rattle.hex.proofs.HexLemmas.{decode_of-even, decode_sized-odd, decode_sized-twice}
 use Rattle.task.specs.Text.{both, hex_digit, hex_byte, hex_bytes, hex_pairs}
 
-regroup : (xs : List ℕ) (b : ℕ) (o : Option (List ℕ)) → option_map (λ rest. (xs ++ b ∷ []) ++ rest) o ≡ option_map (λ rest. xs ++ rest) (both (λ x rest. x ∷ rest) (Some b) o)
-regroup xs b None = refl
-regroup xs b (Some ys) = ap (λ zs. Some zs) (append_assoc xs (b ∷ []) ys)
+-- A digit, a pair of digits and a text of pairs as the library reads them, but for what is wrong with them.
+digit : (c : ℕ) → hex_digit_value c ≡ hex_digit c
+digit c = grind (arith, nat_tests)
 
--- One more byte, of the next two digits.
-pub pairs_more : (xs ys ds es bs : List ℕ) (high low b : ℕ) → ds ≡ high ∷ es → es ≡ low ∷ bs → ys ≡ xs ++ b ∷ [] → Some b ≡ hex_byte high low → option_map (λ rest. ys ++ rest) (hex_pairs bs) ≡ option_map (λ rest. xs ++ rest) (hex_pairs ds)
-pairs_more xs ys ds es bs high low b first second more byte = rw (first, second, more, ← byte) (regroup xs b (hex_pairs bs))
+pair_more : (a b i : ℕ) (x y : Option ℕ) (r : Result (List ℕ) FromHexError) → result_ok ((digit_or_error a i x >>= (λ h. digit_or_error b (i + 1) y >>= (λ l. Ok (h * 16 + l)))) >>= (λ v. r >>= (λ vs. Ok (v ∷ vs)))) ≡ both (λ v vs. v ∷ vs) (both (λ h l. 16 * h + l) x y) (result_ok r)
+pair_more a b i None y r = refl
+pair_more a b i (Some h) None r = refl
+pair_more a b i (Some h) (Some l) (Ok vs) = let e : h * 16 + l ≡ 16 * h + l = omega arith in rw e
+pair_more a b i (Some h) (Some l) (Err e) = refl
+
+pairs : (i : ℕ) (w : List ℕ) → result_ok (decode_pairs i w) ≡ hex_pairs w
+unfolding decode_pairs
+pairs i [] = refl
+pairs i (a ∷ []) = refl
+pairs i (a ∷ b ∷ cs) = pair_more a b i (hex_digit_value a) (hex_digit_value b) (decode_pairs (i + 2) cs) ∙ rw (digit a, digit b, pairs (i + 2) cs)
+
+both_none : {A B C : Type 0} (f : A → B → C) (x : Option A) → both f x None ≡ None
+both_none f None = refl
+both_none f (Some x) = refl
+
+odd_pairs : (w : List ℕ) → length w % 2 ≡ 1 → hex_pairs w ≡ None
+odd_pairs [] odd = absurd (omega arith)
+odd_pairs (a ∷ []) odd = refl
+odd_pairs (a ∷ b ∷ cs) odd = rw (odd_pairs cs (omega arith)) (both_none _ (hex_byte a b))
+
+sized : (w : List ℕ) → result_ok (decode_sized w (length w / 2)) ≡ hex_pairs w
+sized w =
+    elim (cases_eq (length w % 2) 1) [
+      | inl odd ↦ ap result_ok (decode_sized-odd w (length w / 2) odd) ∙ sym (odd_pairs w odd)
+      | inr even ↦ ap result_ok (decode_sized-twice w (length w / 2) (omega arith) ∙ decode_of-even w (omega arith)) ∙ pairs 0 w
+    ]
+
+-- What the library writes into room for the bytes of half as many digits.
+written : (d : Result (List ℕ) FromHexError) (r : Result (Unit {0}) FromHexError) (out : List ℕ) → MatchResult d (λ bs. (r ≡ Ok tt) × (out ≡ bs)) (λ e. r ≡ Err e) → option_map (λ _. out) (result_ok r) ≡ result_ok d
+written (Ok bs) r out h = rw h.0 (ap Some h.1)
+written (Err e) r out h = rw h
+
+pub bytes_read : (w out : List ℕ) (n : ℕ) (r : Result (Unit {0}) FromHexError) → false ≡ bytes_eq w (codes "-") → n ≡ length w / 2 → MatchResult (decode_sized w n) (λ bs. (r ≡ Ok tt) × (out ≡ bs)) (λ e. r ≡ Err e) → option_map (λ _. out) (result_ok r) ≡ hex_bytes w
+bytes_read w out n r other room h = rw (← other) (written (decode_sized w n) r out h ∙ ap (λ k. result_ok (decode_sized w k)) room ∙ sized w)
 
 -- A digit is read as what writes it.
 digit_writes : (c d : ℕ) → hex_digit c ≡ Some d → (d < 16) × (to_ascii_lowercase c ≡ digit_char d)
@@ -68,3 +104,8 @@ hex_law w =
       | inl e ↦ rw e (inr (same.0 e, refl))
       | inr e ↦ rw e (law_from w (hex_pairs w) refl (not_from_Decides _ same e))
     ]
+
+-- The same of what `then_some` makes of the bytes written.
+pub bytes_kept : {V : Type 0} (items : V → List ℕ) (v : V) (o : Option V) (ok : Bool) (w out : List ℕ) (r : Result (Unit {0}) FromHexError) → o ≡ then_some ok v → ok ≡ is_ok r → items v ≡ out → option_map (λ _. out) (result_ok r) ≡ hex_bytes w → option_map items o ≡ hex_bytes w
+bytes_kept items v o ok w out (Ok u) some read same h = rw (some, read, same) h
+bytes_kept items v o ok w out (Err e) some read same h = rw (some, read) h

@@ -1,5 +1,6 @@
 pub mod Cuts
 pub mod Ends
+pub mod Folds
 pub mod Hex
 pub mod Places
 pub mod Spaces

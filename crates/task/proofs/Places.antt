@@ -1,7 +1,6 @@
 -- Reading digits from the left gives what their places are worth.
-use Rattle.std.proofs.Common.{◌≡◌, ℕ, ◌+◌, ◌-◌, ◌*◌, ◌^◌, ◌<◌, ◌≤◌, true, false, cond, ◌&&◌, ltb, List, [], ◌∷◌, length, get_or, drop, Some, None, Option, sym, refl, ap, ◌∙◌, inl, inr, ⊎_elim, mul_assoc, add-mul, le-mul_of_pos_right, arith}
+use Rattle.std.proofs.Common.{◌≡◌, ℕ, ◌+◌, ◌-◌, ◌*◌, ◌^◌, ◌<◌, ◌≤◌, true, false, cond, ◌&&◌, ltb, List, [], ◌∷◌, length, Some, None, Option, sym, refl, ap, ◌∙◌, inl, inr, ⊎_elim, mul_assoc, add-mul, le-mul_of_pos_right, arith}
 use native.Mathlib.Nat.{pow-succ', one-le-pow}
-use Rattle.std.proofs.lemmas.List.{at_drop_more}
 use Rattle.std.proofs.lemmas.Bool.{cases_Bool, cond-false, lt-ltb, le-ltb, ltb-true, ltb-false, and_parts, and_cases, and_left, and_right}
 use Rattle.task.specs.Text.{from_to, all_digits, worth, longer, number}
 
@@ -25,9 +24,6 @@ total_ge n bs = omega (arith, le-mul_of_pos_right n (one-le-pow (length bs) 10 (
 pub after_none : (bs : List ℕ) → after None bs ≡ None
 after_none [] = refl
 after_none (b ∷ bs) = refl
-
-pub after_more : (w : List ℕ) (i n : ℕ) (o : Option ℕ) → i < length w → o ≡ longer n (get_or w i 0) → after (Some n) (drop i w) ≡ after o (drop (i + 1) w)
-after_more w i n o within e = at_drop_more (after (Some n)) w i 0 within ∙ ap (λ p. after p (drop (i + 1) w)) (sym e)
 
 after_is : (bs : List ℕ) (n : ℕ) → n < 2 ^ 64 → after (Some n) bs ≡ cond (all_digits bs && ltb (total n bs) (2 ^ 64)) (Some (total n bs)) None
 after_is [] n fits = let e : n * 1 + 0 ≡ n = omega arith in rw (e, lt-ltb n (2 ^ 64) fits)

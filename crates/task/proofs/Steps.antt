@@ -1,8 +1,7 @@
 -- Fields read one after another.
-use Rattle.std.proofs.Common.{◌≡◌, ℕ, suc, ◌+◌, ◌-◌, ◌<◌, ◌≤◌, List, [], ◌∷◌, ◌++◌, drop, Some, Ok, Err, Option, Result, refl, ap, arith}
-use Rattle.std.proofs.lemmas.List.{append_assoc, append-nil}
-use Rattle.task.specs.Fields.{at_end, bytes_due, number_due, numbers_due, with_it}
-use Rattle.task.specs.Text.{first, hex_bytes}
+use Rattle.std.proofs.Common.{◌≡◌, ℕ, suc, ◌+◌, ◌-◌, ◌<◌, ◌≤◌, List, [], ◌∷◌, ◌++◌, length, take, drop, Ok, Err, Result, refl, ap, arith}
+use Rattle.std.proofs.lemmas.List.{append_assoc, append-nil, take_all}
+use Rattle.task.specs.Fields.{at_end, number_due, numbers_due, with_it}
 use Rattle.task.specs.declared.line.Expected.{Expected}
 
 -- The numbers xs, and n more in these words.
@@ -34,7 +33,13 @@ behind_stops n i ws xs e within stop = rw (next n i within, ← stop)
 no_more : (n i : ℕ) → n ≤ i → n - i ≡ 0
 no_more n i all = omega arith
 
-pub behind_all : (n i : ℕ) (ws : List (List ℕ)) (xs : List ℕ) (r : Result (Unit {0}) Expected) → n ≤ i → r ≡ at_end ws tt → with_it r (λ _. Ok xs) ≡ behind (n - i) ws xs
+all_read : (n i : ℕ) (ws : List (List ℕ)) (xs : List ℕ) (r : Result (Unit {0}) Expected) → n ≤ i → r ≡ at_end ws tt → with_it r (λ _. Ok xs) ≡ behind (n - i) ws xs
 unfolding numbers_due
-behind_all n i [] xs r all e = rw (no_more n i all, e, append-nil)
-behind_all n i (w ∷ ws) xs r all e = rw (no_more n i all, e)
+all_read n i [] xs r all e = rw (no_more n i all, e, append-nil)
+all_read n i (w ∷ ws) xs r all e = rw (no_more n i all, e)
+
+pub behind_all : (n i : ℕ) (ws : List (List ℕ)) (xs : List ℕ) → n ≤ i → length xs ≤ i → Ok tt ≡ at_end {A = Unit {0}} ws tt → Ok xs ≡ behind (n - i) ws (take i xs)
+behind_all n i ws xs all long e = rw (take_all i xs long) (all_read n i ws xs (Ok tt) all e)
+
+pub behind_ends : (n i : ℕ) (ws : List (List ℕ)) (xs : List ℕ) (e : Expected) → n ≤ i → Err e ≡ at_end {A = Unit {0}} ws tt → Err e ≡ behind (n - i) ws xs
+behind_ends n i ws xs e all end = all_read n i ws xs (Err e) all end

@@ -1,9 +1,10 @@
 // The lines of a task's answers.
-ghost use Rattle.std.specs.Prelude.{◌≡◌, ◌++◌, IfOk, string_bytes, OnOk};
+ghost use Rattle.std.specs.Prelude.{◌≡◌, ◌++◌, IfOk, string_bytes};
 ghost use Rattle.task.specs.Answers.{spaced};
 ghost use Rattle.std.specs.List.{flat_map};
 
 use std::alloc::{AllocError, Global};
+use std::fmt::Write;
 
 // A text, and behind it numbers in decimal, each after one space.
 pub fn numbers_line(heap: Global, head: &str, numbers: &[u64]) -> Result<String, AllocError>
@@ -11,13 +12,7 @@ pub fn numbers_line(heap: Global, head: &str, numbers: &[u64]) -> Result<String,
 {
     let mut line = String::from_str(heap, head)?;
     for number in numbers {
-        push_number(heap, &mut line, *number)?;
+        write!(line, " {number}")?;
     }
     Ok(line)
-}
-
-fn push_number(heap: Global, line: &mut String, number: u64) -> Result<(), AllocError>
-    ensures { OnOk result (string_bytes line.new ≡ string_bytes line.old ++ spaced number) }
-{
-    line.push_str(format!(in heap; " {number}")?.as_str())
 }

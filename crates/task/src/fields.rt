@@ -21,7 +21,7 @@ pub fn numbers<const N: usize>(mut rest: Words) -> Result<[u64; N], Expected>
 }
 
 // Just one number.
-pub fn one_number(rest: Words) -> Result<u64, Expected>
+pub(crate) fn one_number(rest: Words) -> Result<u64, Expected>
     ensures { read_as (λ n. n ∷ []) result ≡ numbers_due 1 (words (left rest.entry)) }
 {
     let [number] = numbers::<1>(rest)?;

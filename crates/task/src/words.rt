@@ -32,6 +32,7 @@ impl<'a> Words<'a> {
     }
 
     // All that is left, without the blanks at its ends.
+    #[tactic(auto, using(crate::proofs::Ends::trimmed_text))]
     pub fn trimmed(self) -> &'a [u8]
         ensures value { result.now ≡ trimmed (left self.entry) }
         ensures law { Trims (left self.entry) result.now }

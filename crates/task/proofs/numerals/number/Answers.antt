@@ -1,23 +1,13 @@
-use Rattle.std.proofs.Common.{◌+◌, ◌<◌, length, drop, Some, None, sym, ◌∙◌, arith}
-use Rattle.std.proofs.lemmas.List.{at_drop_all}
+use Rattle.std.proofs.Common.{◌≡◌, ◌<◌, length, sym, ◌∙◌, arith, rules}
 use Rattle.std.proofs.lemmas.Bool.{eqb-false}
-use Rattle.task.proofs.Places.{after, after_more, after_none, number_is}
+use Rattle.std.proofs.lemmas.Iterator.{YieldsList-from_slice}
+use Rattle.std.specs.ControlFlow.{continue_value}
+use Rattle.task.proofs.Folds.{try_folded}
+use Rattle.task.proofs.Places.{number_is}
 use Rattle.task.proofs.numerals.number.Goals as goal
-
-pub returns-in_err-value : goal.returns-in_err-value
-returns-in_err-value c =
-    let w = c.args.word.now in
-    let i = c.loop-byte.byte-index in
-    let stop = after_more w i c.loop-byte.value None (omega arith) (sym c.in_err-value.was ∙ c.longer.ensures) in
-    let some : 0 < length w = omega arith in
-    c.from_residual.ensures ∙ sym (after_none (drop (i + 1) w)) ∙ sym stop ∙ c.loop-byte.invariant ∙ number_is w some
-
-pub loop-byte-preserved : goal.loop-byte-preserved
-loop-byte-preserved c =
-    sym (after_more c.args.word.now c.loop-byte.byte-index c.loop-byte.value (Some c.in_ok-value.value) (omega arith) (sym c.in_ok-value.was ∙ c.longer.ensures)) ∙ c.loop-byte.invariant
 
 pub returns : goal.returns
 returns c =
     let w = c.args.word.now in
     let some : 0 < length w = omega (arith, eqb-false (length w) 0 (sym c.if-is_empty.ensures)) in
-    sym (at_drop_all (after (Some c.loop-byte.value)) w c.loop-byte.byte-index (omega arith)) ∙ c.loop-byte.invariant ∙ number_is w some
+    try_folded _ _ (λ o m. o ≡ continue_value m) (λ p n x o q k. search rules) (λ o m e. e) _ 0 _ c.try_fold.result c.try_fold.ensures.ran (YieldsList-from_slice w c.iter.ensures.rest) ∙ number_is w some
