@@ -1,6 +1,6 @@
 -- Heights that never rise along a row or down a column, and what raising or lowering one of them leaves.
 use Rattle.std.specs.Prelude.{◌≡◌, ℕ, zero, suc, ◌+◌, ◌-◌, ◌<◌, ◌≤◌, min, cond, List, [], ◌∷◌, length, replicate, Some, None, Option, nat_lt, slice_index, slice_set, refl}
-use Rattle.std.proofs.Common.{⊎_elim, sym, ap, ap₂, subst, ◌∙◌, le_refl, le_trans, arith}
+use Rattle.std.proofs.Common.{⊎_elim, ap, ap₂, subst, ◌∙◌, le_refl, le_trans, arith}
 use Rattle.std.proofs.lemmas.List.{get_or_past, get_or-replicate, get_or-set_other, get_or-set_same, length-replicate, set-get_or, set-set}
 use Rattle.std.proofs.lemmas.Bool.{cases_eq, cases_lt}
 use Rattle.std.proofs.lemmas.Bool.Decides.{nat_tests}
@@ -9,10 +9,6 @@ use Rattle.lattice.specs.Orders.{cellwise}
 use Rattle.lattice.proofs.Cells.{cellwise_set}
 use Rattle.partitions.specs.Heights.{Falling, cell_above, cell_below, cell_left, cell_right, height_or, highest, lowest}
 use Rattle.partitions.specs.Sides.{above_before, above_of_below, below_of_above, left_before, left_of_right, right_of_left}
-
--- the same heights by another name
-pub moved_falling : (e f : Extent) (x y : List ℕ) → f ≡ e → x ≡ y → Falling e y → Falling f x
-moved_falling e f x y extents cells falling = subst (λ (z : List ℕ). Falling f z) (sym cells) (subst (λ (g : Extent). Falling g y) (sym extents) falling)
 
 -- the height at a cell that may be missing
 height_same : (d : ℕ) (x y : List ℕ) (o : Option ℕ) → ((j : ℕ) → o ≡ Some j → slice_index x j ≡ slice_index y j) → height_or d x o ≡ height_or d y o

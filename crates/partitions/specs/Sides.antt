@@ -1,16 +1,10 @@
 -- Which cells lie left, right, above and below of one another.
-use Rattle.std.specs.Prelude.{◌≡◌, ℕ, suc, ◌+◌, ◌-◌, ◌*◌, ◌/◌, ◌%◌, ◌<◌, ◌≤◌, Bool, true, false, cond, ◌&&◌, ltb, pos, negsuc, Some, None, ◌≢◌, nat_lt, refl}
+use Rattle.std.specs.Prelude.{◌≡◌, ℕ, suc, ◌+◌, ◌-◌, ◌*◌, ◌/◌, ◌%◌, ◌<◌, ◌≤◌, Bool, true, false, cond, ◌&&◌, ltb, pos, negsuc, Some, None, nat_lt, refl}
 use Rattle.std.proofs.Common.{⊎_elim, ap, subst, ◌∙◌, add-zero, mod-lt, suc-mul, arith}
 use Rattle.std.proofs.lemmas.Nat.{div-add-mod', div_below, div-mul-add, mod-mul-add}
 use Rattle.std.proofs.lemmas.Bool.{and_parts, cases_Bool, ltb-true, ltb-false, lt-ltb, le-ltb}
 use Rattle.lattice.specs.Grid.{Extent, cell_at, cell_count}
 use Rattle.partitions.specs.Heights.{cell_above, cell_below, cell_left, cell_right}
-
-none_some : (j : ℕ) → None ≢ Some j
-none_some j e = let z : ◌≡◌ {A = ℕ} 0 1 = cc in omega arith
-
-some_same : (i j : ℕ) → Some i ≡ Some j → j ≡ i
-some_same i j e = cc
 
 -- the cell at a row and a column of the grid
 cell_parts : (e : Extent) (r c j : ℕ) → cell_at e (pos r) (pos c) ≡ Some j → (r < e.rows) × (c < e.columns) × (j ≡ r * e.columns + c)
@@ -19,8 +13,9 @@ cell_parts e r c j h =
     ⊎_elim
     (λ (t : (nat_lt r e.rows && nat_lt c e.columns) ≡ true).
     let p = and_parts (nat_lt r e.rows) (nat_lt c e.columns) t in
-    (ltb-true r e.rows p.0, ltb-true c e.columns p.1, some_same (r * e.columns + c) j (subst P t h)))
-    (λ (f : (nat_lt r e.rows && nat_lt c e.columns) ≡ false). absurd (none_some j (subst P f h)))
+    let some : Some (r * e.columns + c) ≡ Some j = subst P t h in
+    (ltb-true r e.rows p.0, ltb-true c e.columns p.1, cc))
+    (λ (f : (nat_lt r e.rows && nat_lt c e.columns) ≡ false). let none : None ≡ Some j = subst P f h in cc)
     (cases_Bool (nat_lt r e.rows && nat_lt c e.columns))
 
 cell_from : (e : Extent) (r c : ℕ) → r < e.rows → c < e.columns → cell_at e (pos r) (pos c) ≡ Some (r * e.columns + c)
@@ -32,7 +27,7 @@ left_parts e i j h =
     let r = i % e.columns in
     let P : Bool → Type 0 = λ t. cell_at e (pos (q + 0)) (cond t (negsuc (1 - suc r)) (pos (r - 1))) ≡ Some j in
     ⊎_elim
-    (λ (t : ltb r 1 ≡ true). absurd (none_some j (subst P t h)))
+    (λ (t : ltb r 1 ≡ true). let none : None ≡ Some j = subst P t h in cc)
     (λ (f : ltb r 1 ≡ false).
     let p = rw (add-zero q) at (cell_parts e (q + 0) (r - 1) j (subst P f h)) in
     let some = ltb-false r 1 f in
@@ -49,7 +44,7 @@ above_parts e i j h =
     let r = i % e.columns in
     let P : Bool → Type 0 = λ t. cell_at e (cond t (negsuc (1 - suc q)) (pos (q - 1))) (pos (r + 0)) ≡ Some j in
     ⊎_elim
-    (λ (t : ltb q 1 ≡ true). absurd (none_some j (subst P t h)))
+    (λ (t : ltb q 1 ≡ true). let none : None ≡ Some j = subst P t h in cc)
     (λ (f : ltb q 1 ≡ false).
     let p = rw (add-zero r) at (cell_parts e (q - 1) (r + 0) j (subst P f h)) in
     let some = ltb-false q 1 f in

@@ -44,7 +44,7 @@ one_done GiveUp _ = omega arith
 
 next_draw : (count left : ℕ) (none : Bool) → none ≡ (left - 1 == 0) → 3 * (left - 1) + of_draw (cond none None (Some Open)) ≤ 3 * left
 next_draw count left true e = omega arith
-next_draw count zero false e = let z : ◌≡◌ {A = ℕ} 0 1 = cc in absurd (omega arith)
+next_draw count zero false e = cc
 next_draw count (suc left) false e = omega arith
 
 going_on : (d : Draws) (n : Next) → requests_left (go_on d n) ≤ 3 * d.left + of_next n

@@ -62,6 +62,10 @@ impl<R: Read + Drop, W: Write> Console<'_, '_, '_, R, W> {
         }
     }
 
+    fn say_batch(&mut self, batch: &Batch) -> Result<(), Trouble> {
+        self.say(batch_line(self.rt.alloc(), batch)?)
+    }
+
     fn say_end(&mut self, stage: Stage) -> Result<(), Trouble> {
         self.say(end_lines(self.rt.alloc(), stage)?)
     }
@@ -72,7 +76,7 @@ impl<R: Read + Drop, W: Write> Console<'_, '_, '_, R, W> {
         work: &mut Work<K, S>,
         batch: Batch,
     ) -> Result<Stage, Halted> {
-        let said = self.say_made(batch_line(self.rt.alloc(), &batch));
+        let said = self.say_batch(&batch);
         let (mut stage, ()) = halting(Stage::Idle(batch), said)?;
         for _ in 0..u64::MAX {
             let next = self.lines.next_allowed(TaskStage::from(&stage));
@@ -115,7 +119,7 @@ impl<R: Read + Drop, W: Write> Console<'_, '_, '_, R, W> {
         match directive {
             Directive::Trace(back) => self.say_moves(&work.setting, back),
             Directive::States => self.say_states(work.setting.rule, &work.ends),
-            Directive::Tally => self.say_made(tally_line(self.rt.alloc(), stage.tally())),
+            Directive::Tally => self.say(tally_line(self.rt.alloc(), stage.tally())?),
             _ => Err(Trouble::Misplaced),
         }
     }

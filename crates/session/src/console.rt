@@ -1,5 +1,6 @@
 // Where the directives of a task come from, and where its answers go.
-ghost use Rattle.std.specs.Prelude.{◌≡◌, Ok, IfOk, IfSome};
+ghost use Rattle.std.specs.Prelude.{◌≡◌, IfOk};
+ghost use Rattle.std.specs.Result.{result_ok};
 
 use crate::draw_lines::states_lines;
 use crate::drawable::Drawable;
@@ -12,7 +13,6 @@ use batch::ends::Ends;
 use batch::setting::Setting;
 use refusal::Cause;
 use sources::source::Source;
-use std::alloc::AllocError;
 use std::io::{Read, Write};
 
 #[derive(Drop)]
@@ -30,11 +30,8 @@ impl<R: Read + Drop, W: Write> Console<'_, '_, '_, R, W> {
 
     // What was asked for, or none where it was refused, and that has been said. Want of memory, which has no line, ends
     // the task.
-    pub fn granted<T: Drop, C: Cause + Drop>(
-        &mut self,
-        asked: Result<T, C>,
-    ) -> Result<Option<T>, Trouble>
-        ensures { IfOk result (λ o. IfSome o (λ x. asked ≡ Ok x)) }
+    pub fn granted<T, C: Cause + Drop>(&mut self, asked: Result<T, C>) -> Result<Option<T>, Trouble>
+        ensures { IfOk result (λ o. o ≡ result_ok asked) }
     {
         match asked {
             Ok(value) => Ok(Some(value)),
@@ -44,22 +41,6 @@ impl<R: Read + Drop, W: Write> Console<'_, '_, '_, R, W> {
                 Ok(None)
             }
         }
-    }
-
-    // Prints the text, if there was memory for it.
-    pub fn say_made(&mut self, text: Result<String, AllocError>) -> Result<(), Trouble> {
-        self.say(text?)
-    }
-
-    // Prints the lines, or the refusal in their place.
-    pub fn say_granted<C: Cause + Drop>(
-        &mut self,
-        lines: Result<String, C>,
-    ) -> Result<(), Trouble> {
-        if let Some(lines) = self.granted(lines)? {
-            self.say(lines)?;
-        }
-        Ok(())
     }
 
     // Prints every move of a trace, and the state after it.
@@ -74,12 +55,19 @@ impl<R: Read + Drop, W: Write> Console<'_, '_, '_, R, W> {
             return Ok(());
         };
         while let Some(Some(step)) = self.granted(trace.next_move(setting))? {
-            self.say_granted(move_lines(heap, setting.rule, step, trace.state()))?;
+            let lines = move_lines(heap, setting.rule, step, trace.state());
+            let Some(lines) = self.granted(lines)? else {
+                return Ok(());
+            };
+            self.say(lines)?;
         }
         Ok(())
     }
 
     pub fn say_states<K: Drawable>(&mut self, rule: &K, ends: &Ends<K>) -> Result<(), Trouble> {
-        self.say_granted(states_lines(self.rt.alloc(), rule, ends))
+        match self.granted(states_lines(self.rt.alloc(), rule, ends))? {
+            Some(lines) => self.say(lines),
+            None => Ok(()),
+        }
     }
 }

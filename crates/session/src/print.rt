@@ -37,7 +37,7 @@ pub(crate) fn refused_line<C: Cause>(heap: Global, cause: &C) -> Result<Option<S
 }
 
 pub(crate) fn rule_line<K: Kind>(heap: Global, rule: &K) -> Result<String, AllocError>
-    ensures { IfOk result (λ t. string_bytes t ≡ rule_line K.coded (K.extent rule.now)) }
+    ensures { IfOk result (λ t. string_bytes t ≡ rule_line K.CODE (K.extent rule.now)) }
 {
     let (rows, columns) = rule.sides();
     let numbers = [

@@ -70,7 +70,7 @@ impl<R: Read + Drop, W: Write> Console<'_, '_, '_, R, W> {
         let Some(ends) = self.granted(Ends::new(self.rt.alloc(), rule))? else {
             return Ok(());
         };
-        self.say_made(rule_line(self.rt.alloc(), rule))?;
+        self.say(rule_line(self.rt.alloc(), rule)?)?;
         for _ in 0..u64::MAX {
             match self.lines.next_allowed(Stage::Ruled)? {
                 Some(Directive::States) => self.say_states(rule, &ends)?,
@@ -120,7 +120,7 @@ impl<R: Read + Drop, W: Write> Console<'_, '_, '_, R, W> {
         &mut self,
         mut work: Work<K, S>,
     ) -> Result<(), Trouble> {
-        self.say_made(source_line(self.rt.alloc(), work.setting.source))?;
+        self.say(source_line(self.rt.alloc(), work.setting.source)?)?;
         for _ in 0..u64::MAX {
             match self.lines.next_allowed(Stage::Sourced)? {
                 Some(Directive::Trace(back)) => self.say_moves(&work.setting, back)?,

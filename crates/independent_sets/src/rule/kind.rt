@@ -15,7 +15,7 @@ use crate::state::IndependentSet;
 use lattice::fault::StateFault;
 use lattice::grid::Grid;
 use lattice::kind::Kind;
-use lattice::shape::Shape;
+use lattice::shape::{DIRECTIONS, Shape};
 use lattice::words::split;
 use std::alloc::{AllocError, Global};
 
@@ -34,11 +34,10 @@ fn is_white(shape: &Shape, cell: usize) -> bool
 fn is_free(shape: &Shape, cells: &[u8], cell: usize) -> bool
     ensures { result ≡ free (extent_of shape.now) cells.now cell }
 {
-    shape.neighbours(cell).into_iter().flatten().all(|neighbour| cells
-        .get(neighbour)
-        .copied()
-        .unwrap_or(0)
-        == 0)
+    DIRECTIONS
+        .iter()
+        .filter_map(|shift| shape.beside(cell, *shift))
+        .all(|neighbour| cells.get(neighbour).copied().unwrap_or(0) == 0)
 }
 
 // Whether the next cell after these may hold the value.

@@ -1,4 +1,4 @@
-use Rattle.std.proofs.Common.{◌≡◌, ℕ, ◌+◌, ◌<◌, ◌≤◌, Bool, true, ltb, List, [], ◌∷◌, ◌++◌, length, get_or, take, vec_items, sym, ap, ◌∙◌, inl, arith}
+use Rattle.std.proofs.Common.{◌≡◌, ℕ, ◌+◌, ◌<◌, ◌≤◌, Bool, true, false, ltb, List, [], ◌∷◌, ◌++◌, length, get_or, take, vec_items, sym, ap, ◌∙◌, inl, arith}
 use Rattle.lattice.specs.Calls.{cell_answer}
 use Rattle.lattice.specs.Grid.{Extent, agree, cell_count}
 use Rattle.lattice.specs.Faults.{state_refusal}
@@ -16,36 +16,28 @@ cell_given rule state cells i v e =
 
 -- one cell more
 more : (cells before after : List ℕ) (i v w : ℕ) → i < length cells → after ≡ before ++ w ∷ [] → w ≡ v → v ≡ get_or cells i 0 → before ≡ take i cells → after ≡ take (i + 1) cells
-more cells before after i v w within pushed wide value told =
-    pushed
-    ∙ ap (λ (u : ℕ). before ++ u ∷ []) (wide ∙ value)
-    ∙ ap (λ (vs : List ℕ). vs ++ get_or cells i 0 ∷ []) told
-    ∙ sym (take_more cells i 0 within)
+more cells before after i v w within pushed wide value told = let e = take_more cells i 0 within in cc
 
 -- all cells, of a state that is the rule's
 all_told : (own : Bool) (c : Refusal) (cells values : List ℕ) (n : ℕ) → own ≡ true → length cells ≤ n → values ≡ take n cells → given values ≡ provided own c (given cells)
-all_told own c cells values n so upto told =
-    ap given (told ∙ take_all n cells upto) ∙ sym (ap (λ (t : Bool). provided t c (given cells)) so)
-
--- the rule owns the state
-owned : (rule state : Extent) (t : Bool) → t ≡ agree rule state → t ≡ true → agree rule state ≡ true
-owned rule state t is so = sym is ∙ so
+all_told true c cells values n so upto told = ap given (told ∙ take_all n cells upto)
+all_told false c cells values n so upto told = cc
 
 pub returns : goal.returns
 returns g c =
     let rule = c.args.rule.now in
     let state = c.args.state.now in
     let cells = g.K.Kind.cells state in
-    let own = owned (g.K.Kind.extent rule) (g.K.Kind.carried state) c.owns.result c.owns.ensures c.if-not-owns.false in
+    let own : agree (g.K.Kind.extent rule) (g.K.Kind.carried state) ≡ true = sym c.owns.ensures ∙ c.if-not-owns.false in
     let long = (g.met.K.Kind.sized rule cells (g.met.K.Kind.lawful rule state (sym (agree_same _ _ own)))).0 in
-    inl (all_told (agree (g.K.Kind.extent rule) (g.K.Kind.carried state)) (state_refusal Foreign) cells (vec_items c.loop-cell.values) c.loop-cell.cell own (omega arith) c.loop-cell.invariant)
+    inl (all_told _ (state_refusal Foreign) cells (vec_items c.loop-cell.values) c.loop-cell.cell own (omega arith) c.loop-cell.invariant)
 
 pub loop-cell-preserved : goal.loop-cell-preserved
 loop-cell-preserved g c =
     let rule = c.args.rule.now in
     let state = c.args.state.now in
     let cells = g.K.Kind.cells state in
-    let own = owned (g.K.Kind.extent rule) (g.K.Kind.carried state) c.owns.result c.owns.ensures c.if-not-owns.false in
+    let own : agree (g.K.Kind.extent rule) (g.K.Kind.carried state) ≡ true = sym c.owns.ensures ∙ c.if-not-owns.false in
     let long = (g.met.K.Kind.sized rule cells (g.met.K.Kind.lawful rule state (sym (agree_same _ _ own)))).0 in
     let value = cell_given (g.K.Kind.extent rule) (g.K.Kind.carried state) cells c.loop-cell.cell c.in_ok-value.value c.in_ok-value.ensures in
-    more cells (vec_items c.loop-cell.values) (vec_items c.push.new.self) c.loop-cell.cell c.in_ok-value.value c.from.result (omega arith) c.in_ok-push.ensures.items c.from.ensures value c.loop-cell.invariant
+    more cells _ _ c.loop-cell.cell c.in_ok-value.value c.from.result (omega arith) c.in_ok-push.ensures.items c.from.ensures value c.loop-cell.invariant

@@ -1,19 +1,27 @@
-use Rattle.std.proofs.Common.{◌≡◌, ℕ, ◌≤◌, List, Option, get_or, eqb, ap, ◌∙◌, rules, tests}
-use Rattle.std.specs.List.{flat_map, list_all}
-use Rattle.std.specs.Option.{option_len, option_to_list}
-use Rattle.std.specs.Array.Iter.{array_into_iter_items, array_steps}
-use Rattle.std.specs.Iterator.Adapters.{OnceYieldsItsItem, once_item, once_steps}
-use Rattle.std.proofs.lemmas.Iterator.Adapters.{YieldsList-from_flatten, YieldsList-from_once}
-use Rattle.std.proofs.lemmas.Iterator.Consumers.{YieldsList-at, YieldsList-from_shown}
+use Rattle.std.proofs.Common.{◌≡◌, ℕ, List, [], ◌∷◌, ◌++◌, Some, None, Option, get_or, eqb, refl, ap, ◌∙◌, rules, tests}
+use Rattle.std.specs.List.{cons_option, filter_map, flat_map, list_all}
+use Rattle.std.specs.Option.{option_to_list}
+use Rattle.std.proofs.lemmas.Iterator.{YieldsList-from_slice}
+use Rattle.std.proofs.lemmas.Iterator.Consumers.{YieldsList-at, YieldsList-from_filter_map}
 use Rattle.std.proofs.lemmas.Iterator.Search.{all_from_yields_List}
+use Rattle.lattice.specs.Grid.{beside, directions}
+use Rattle.lattice.specs.Shapes.{extent_of}
 use Rattle.independent_sets.proofs.rule.kind.is_free.Goals as goal
+
+-- those of a list that exist
+existing : {X : Type 0} (f : X → Option ℕ) (xs : List X) → filter_map f xs ≡ flat_map (λ x. option_to_list (f x)) xs
+existing f [] = refl
+existing f (x ∷ xs) = front (f x) ∙ ap (λ (ys : List ℕ). option_to_list (f x) ++ ys) (existing f xs)
+  where
+    front : (o : Option ℕ) → cons_option o (filter_map f xs) ≡ option_to_list o ++ filter_map f xs
+    front None = refl
+    front (Some y) = refl
 
 pub returns : goal.returns
 returns c =
+    let e = extent_of c.args.shape.now in
     let cells = c.args.cells.now in
-    let all_empty : List (Option ℕ) → _ = λ s. list_all (λ j. eqb (get_or cells j 0) 0) (flat_map option_to_list s) in
-    let sides = YieldsList-from_shown (array_steps {A = Option ℕ} {n = 4}) (λ x. x) array_into_iter_items (λ s t h. h.0) (λ s x t h. h) c.into_iter.result in
     all_from_yields_List (λ j. eqb (get_or cells j 0) 0) _ _ c.all.result c.all.ensures.ran
-    (YieldsList-from_flatten (λ o s. (once_item s ≡ o) × (option_len (once_item s) ≤ 1) × OnceYieldsItsItem ℕ) once_steps (λ x. x) option_to_list (λ o s h. YieldsList-from_once o h.0) (YieldsList-at c.flatten.ensures.source sides) c.flatten.ensures.front c.flatten.ensures.back c.flatten.ensures.done)
+    (YieldsList-from_filter_map _ (beside e c.args.cell) (YieldsList-at c.filter_map.ensures.source (YieldsList-from_slice directions cc)) c.filter_map.ensures.closure (λ x r q k. search (rules, tests)))
     (λ x b q k. search (rules, tests))
-    ∙ ap all_empty (c.into_iter.ensures.into_iter_gives.0 ∙ c.neighbours.ensures)
+    ∙ ap (list_all (λ j. eqb (get_or cells j 0) 0)) (existing (beside e c.args.cell) directions)

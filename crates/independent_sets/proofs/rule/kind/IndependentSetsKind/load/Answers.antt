@@ -5,7 +5,7 @@ use Rattle.lattice.proofs.Extents.{agree_same}
 use Rattle.independent_sets.specs.Independent.{independent, independent_sets, may_follow}
 use Rattle.independent_sets.specs.Sets.{rule_extent, state_extent}
 use Rattle.independent_sets.specs.Laws.{first_bad, follow_lawful, lawful_from}
-use Rattle.independent_sets.proofs.Loaded.{load_lawful, load_unlawful}
+use Rattle.lattice.proofs.Loads.{load_lawful, load_unlawful}
 use Rattle.independent_sets.proofs.rule.kind.IndependentSetsKind.load.Goals as goal
 
 pub returns-then-not-may_follow-clause-answers : goal.returns-then-not-may_follow-clause-answers

@@ -3,7 +3,7 @@ use Rattle.lattice.specs.Grid.{cell_count}
 use Rattle.partitions.specs.Heights.{highest, partitions_meaning}
 use Rattle.partitions.specs.Partitions.{partitions_extent}
 use Rattle.partitions.specs.Laws.{first_bad, lawful_from}
-use Rattle.partitions.proofs.Loaded.{load_lawful, load_unlawful}
+use Rattle.lattice.proofs.Loads.{load_lawful, load_unlawful}
 use Rattle.partitions.proofs.rule.kind.PartitionsKind.load.Goals as goal
 
 pub returns-then-height-highest-clause-answers : goal.returns-then-height-highest-clause-answers
