@@ -70,7 +70,7 @@ impl fmt::Display for Failure {
 fn main(rt: HostRuntime) -> ExitCode {
     match begin(&rt) {
         Ok(()) => ExitCode::SUCCESS,
-        // Of these only the status tells.
+        // Only the status tells of these, as it does where a message cannot be printed.
         Err(Failure::Io(_)) => ExitCode::FAILURE,
         Err(failure) => {
             let _ = eprintln!(rt; "{failure}");
