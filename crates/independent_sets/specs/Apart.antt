@@ -1,17 +1,14 @@
 -- Independent sets cell by cell: an occupied cell has only empty neighbours.
 use Rattle.std.specs.Prelude.{◌≡◌, ℕ, ◌<◌, ◌≤◌, true, false, ◌&&◌, ◌||◌, ◌⊎◌, List, length, take, ◌==◌, nat_eq, slice_index, slice_index_or, slice_set}
 use Rattle.std.proofs.Common.{inl, inr, ⊎_elim, sym, ◌∙◌, arith}
-use Rattle.std.proofs.lemmas.List.{get_or_past, get_or-set_other, get_or-set_same, get_or-take, length-take-le, set_past}
+use Rattle.std.proofs.lemmas.List.{get_or-set_other, get_or-set_same, get_or-take, length-take-le, set_past}
 use Rattle.std.proofs.lemmas.Bool.{and_cases, and_parts, cases_eq, cases_lt, eq-eqb, eqb-false, eqb-true, or_cases, or_left, or_parts, or_right}
 use Rattle.std.specs.List.{range_with_len}
 use Rattle.lattice.specs.Grid.{Extent, cell_count, neighbours}
+use Rattle.lattice.proofs.Cells.{positive_within}
 use Rattle.independent_sets.specs.Independent.{free, independent, may_follow}
 use Rattle.independent_sets.specs.Beside.{neighbour_apart, neighbour_back}
 use Rattle.independent_sets.specs.Members.{Among, counted, fail_at, pass_at, pass_from}
-
--- a cell that is not empty is one of the list
-pub occupied_within : (x : List ℕ) (i : ℕ) → 0 < slice_index x i → i < length x
-occupied_within x i h = ⊎_elim (λ l. l) (λ (past : length x ≤ i). absurd (omega (arith, get_or_past x i 0 past))) (cases_lt i (length x))
 
 module _ (e : Extent) (x : List ℕ) where
   abbrev pub Apart : Type 0
@@ -30,7 +27,7 @@ module _ (e : Extent) (x : List ℕ) where
 
   pub apart_from : length x ≡ cell_count e → independent e x ≡ true → Apart
   apart_from long t i j h occupied =
-      let within : i < cell_count e = omega (arith, occupied_within x i occupied) in
+      let within : i < cell_count e = omega (arith, positive_within x i occupied) in
       let passes = pass_at (λ k. (slice_index x k == 0) || free e x k) (range_with_len 0 (cell_count e)) i t (counted 0 (cell_count e) i (omega arith) (omega arith)) in
       ⊎_elim
       (λ (z : nat_eq (slice_index x i) 0 ≡ true). absurd (omega (arith, eqb-true (slice_index x i) 0 z)))
@@ -61,7 +58,7 @@ set_apart e x i v long apart allowed =
     let kept : 0 < slice_index_or x k 0 = rw (get_or-set_other x i k v 0 elsewhere) at occupied in
     ⊎_elim
     (λ (there : j ≡ i).
-    let back : Among (neighbours e i) k = rw there at (neighbour_back e k j h (omega (arith, occupied_within x k kept))) in
+    let back : Among (neighbours e i) k = rw there at (neighbour_back e k j h (omega (arith, positive_within x k kept))) in
     let none : v ≡ 0 = ⊎_elim (λ (z : v < 1). omega arith) (λ (some : 1 ≤ v). absurd (omega (arith, free_at e x i k (allowed (omega arith)) back))) (cases_lt v 1) in
     rw (there, get_or-set_same x i v 0 within) none)
     (λ (other : j ≡ i → ⊥). get_or-set_other x i j v 0 other ∙ apart k j h kept)
@@ -113,6 +110,6 @@ stops_parts e x i long f =
     (λ (many : nat_eq v 1 ≡ false). let not_one = eqb-false v 1 many in inl (omega (arith, some, not_one)))
     (λ (taken : free e (take i x) (length (take i x)) ≡ false).
     let q = not_free e (take i x) i (rw size at taken) in
-    let before : q.0 < i = omega (arith, occupied_within (take i x) q.0 q.2) in
+    let before : q.0 < i = omega (arith, positive_within (take i x) q.0 q.2) in
     inr (omega (arith, some), (q.0, before, q.1, rw (get_or-take i x q.0 0 before) at q.2)))
     (and_cases (v == 1) (free e (take i x) (length (take i x))) p.1)

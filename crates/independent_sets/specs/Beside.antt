@@ -1,11 +1,12 @@
 -- Neighbours on a grid: each is a cell of the grid, each is a neighbour of the other, and they have opposite colours.
-use Rattle.std.specs.Prelude.{◌≡◌, ℕ, ◌+◌, ◌*◌, ◌/◌, ◌%◌, ◌<◌, ◌≤◌, Bool, true, false, not, ◌&&◌, ◌⊎◌, List, [], ◌++◌, ℤ, pos, negsuc, ◌+ℤ◌, Some, None, Option, ◌==◌, ◌≢◌, nat_lt, refl}
+use Rattle.std.specs.Prelude.{◌≡◌, ℕ, ◌+◌, ◌*◌, ◌/◌, ◌%◌, ◌<◌, ◌≤◌, Bool, true, false, not, ◌⊎◌, List, [], ◌++◌, ℤ, pos, negsuc, ◌+ℤ◌, Some, None, Option, ◌==◌, ◌≢◌, refl}
 use Rattle.std.proofs.Common.{inl, inr, ⊎_elim, sym, ap, ap₂, ◌∙◌, subst, mul_comm, mul-zero, arith}
 use Rattle.std.proofs.lemmas.Nat.{div_below, div-add-mod', div-mul-add, mod_below, mod-mul-add, mul-add-lt}
 use Rattle.std.proofs.lemmas.Int.{ints}
-use Rattle.std.proofs.lemmas.Bool.{and_parts, cases_Bool, cases_lt, lt-ltb, ltb-true, eq-eqb, ne_eqb, cases_eq, true≢false, false≢true}
+use Rattle.std.proofs.lemmas.Bool.{cases_lt, eq-eqb, ne_eqb, cases_eq, true≢false, false≢true}
 use Rattle.std.specs.Option.{option_to_list}
 use Rattle.lattice.specs.Grid.{Extent, beside, cell_at, cell_count, neighbours}
+use Rattle.lattice.proofs.Neighbours.{cell_from, cell_parts}
 use Rattle.independent_sets.specs.Independent.{white}
 use Rattle.independent_sets.specs.Members.{Among, among_cases, among_left, among_right}
 
@@ -14,23 +15,6 @@ row e i = i / e.columns
 
 abbrev column : Extent → ℕ → ℕ
 column e i = i % e.columns
-
--- a row and a column that the grid has
-module _ (e : Extent) (r c j : ℕ) where
-  at_parts : cell_at e (pos r) (pos c) ≡ Some j → (r < e.rows) × (c < e.columns) × (j ≡ r * e.columns + c)
-  at_parts h =
-      ⊎_elim
-      (λ (t : (nat_lt r e.rows && nat_lt c e.columns) ≡ true).
-      let both = and_parts (nat_lt r e.rows) (nat_lt c e.columns) t in
-      let some : Some (r * e.columns + c) ≡ Some j = rw t at h in
-      (ltb-true r e.rows both.0, ltb-true c e.columns both.1, cc))
-      (λ (f : (nat_lt r e.rows && nat_lt c e.columns) ≡ false).
-      let none : None ≡ Some j = rw f at h in
-      cc)
-      (cases_Bool (nat_lt r e.rows && nat_lt c e.columns))
-
-  at_from : r < e.rows → c < e.columns → j ≡ r * e.columns + c → cell_at e (pos r) (pos c) ≡ Some j
-  at_from low left same = rw (lt-ltb r e.rows low, lt-ltb c e.columns left) (ap Some (sym same))
 
 -- a cell at integer coordinates has natural ones
 at_naturals : (e : Extent) (a b : ℤ) (j : ℕ) → cell_at e a b ≡ Some j → (r : ℕ) × (c : ℕ) × (a ≡ pos r) × (b ≡ pos c)
@@ -66,7 +50,7 @@ shifted : (e : Extent) (i j : ℕ) (s t : ℤ) → beside e i (s, t) ≡ Some j 
 shifted e i j s t h =
     let n = at_naturals e (pos (row e i) +ℤ s) (pos (column e i) +ℤ t) j h in
     let at : cell_at e (pos n.0) (pos n.1) ≡ Some j = subst (λ (a : ℤ). cell_at e a (pos n.1) ≡ Some j) n.2 (subst (λ (b : ℤ). cell_at e (pos (row e i) +ℤ s) b ≡ Some j) n.3 h) in
-    let p = at_parts e n.0 n.1 j at in (
+    let p = cell_parts e n.0 n.1 j at in (
       n.2 ∙ ap pos (sym (row_is e n.0 n.1 j p.1 p.2)),
       n.3 ∙ ap pos (sym (column_is e n.0 n.1 j p.1 p.2)),
       rw p.2 (omega (arith, mul-add-lt n.0 e.columns n.1 e.rows p.0 p.1, mul_comm e.rows e.columns)),
@@ -134,7 +118,7 @@ module _ (e : Extent) (i j : ℕ) where
   to_from s t within r c =
       let some : 0 < e.columns = columns_from e j within in
       among_some (beside e i (s, t)) j
-      (ap₂ (cell_at e) r c ∙ at_from e (row e j) (column e j) j (div_below j e.columns e.rows some within) (mod_below j e.columns some) (sym (div-add-mod' j e.columns)))
+      (ap₂ (cell_at e) r c ∙ cell_from e (row e j) (column e j) (div_below j e.columns e.rows some within) (mod_below j e.columns some) ∙ ap Some (div-add-mod' j e.columns))
 
   from_next : j < cell_count e → Next e i j → Among (neighbours e i) j
   from_next within (inl (inr r, c)) = in_above (to_from (negsuc 0) (pos 0) within (omega (arith, ints)) (omega (arith, ints)))

@@ -7,7 +7,8 @@ use Rattle.std.proofs.lemmas.Bool.{cases_Bool, cases_eq, cases_lt, cond_both}
 use Rattle.lattice.specs.Grid.{Extent, cell_count}
 use Rattle.lattice.specs.Kind.{Meaning}
 use Rattle.independent_sets.specs.Independent.{checkerboard, independent, independent_sets, white}
-use Rattle.independent_sets.specs.Apart.{Apart, from_apart, occupied_within}
+use Rattle.lattice.proofs.Cells.{positive_within}
+use Rattle.independent_sets.specs.Apart.{Apart, from_apart}
 use Rattle.independent_sets.specs.Beside.{neighbour_other, neighbour_within}
 
 -- The order cell by cell. The laws are proved of it, and hold of the order of independent sets because that says the same.
@@ -69,7 +70,7 @@ module _ (e : Extent) (on_white on_black : ℕ) where
   -- no white cell is occupied beside a black one
   pub checkerboard_apart : (0 < on_white → on_black ≡ 0) → Apart e (checkerboard e on_white on_black)
   checkerboard_apart alone i j h occupied =
-      let within : i < cell_count e = omega (arith, occupied_within (checkerboard e on_white on_black) i occupied, length_checkerboard) in
+      let within : i < cell_count e = omega (arith, positive_within (checkerboard e on_white on_black) i occupied, length_checkerboard) in
       let other = neighbour_other e i j h in
       let here : 0 < cond (white e i) on_white on_black = rw (slice_index_checkerboard i within) at occupied in
       let there = slice_index_checkerboard j (neighbour_within e i j h) in

@@ -9,11 +9,11 @@ use Rattle.lattice.specs.Grid.{Extent, cell_count}
 use Rattle.lattice.specs.Kind.{Bounded, Closed, Distinct, FirstBad, Lawful, Monotone, Ordered, Sized}
 use Rattle.lattice.specs.Lists.{value_lists}
 use Rattle.lattice.specs.Words.{level, site}
-use Rattle.lattice.proofs.Cells.{all_upto, append_upto, begins_same, filled_up, replicate_upto, set_upto, take_upto, upto_all}
+use Rattle.lattice.proofs.Cells.{all_upto, append_upto, begins_same, filled_up, positive_within, replicate_upto, set_upto, take_upto, upto_all}
 use Rattle.lattice.proofs.Halves.{Undo, exchanges}
 use Rattle.lattice.proofs.Listed.{kept_holds, kept_once, kept_parts, listed, listed_once, listed_parts}
 use Rattle.independent_sets.specs.Independent.{checkerboard, clear, fill, free, independent, independent_sets, may_follow, threshold, white}
-use Rattle.independent_sets.specs.Apart.{Apart, apart_from, follow_apart, follow_upto, free_at, free_from, from_apart, occupied_within, set_apart, stops_parts}
+use Rattle.independent_sets.specs.Apart.{Apart, apart_from, follow_apart, follow_upto, free_at, free_from, from_apart, set_apart, stops_parts}
 use Rattle.independent_sets.specs.Beside.{neighbour_apart, neighbour_other}
 use Rattle.independent_sets.specs.Checkerboards.{Turned, checkerboard_upto, checkerwise_set, coloured, coloured_apart, coloured_bits, length_checkerboard, turned_along, turned_same, turned_sets, upto_checkerboard, when_from}
 
@@ -168,7 +168,7 @@ module _ (e : Extent) where
     from_apart e x
         (λ i j h occupied.
         ⊎_elim
-        (λ (within : j < length x). follow_apart e x (length x) (omega arith) (le_refl _) follow i j (occupied_within x i occupied) within h occupied)
+        (λ (within : j < length x). follow_apart e x (length x) (omega arith) (le_refl _) follow i j (positive_within x i occupied) within h occupied)
         (get_or_past x j 0)
         (cases_lt j (length x))),
   )

@@ -7,6 +7,10 @@ use Rattle.std.proofs.lemmas.List.{ext_get_or, get_or-take, get_or_past, length-
 use Rattle.std.proofs.ByRecursion.{All-from_get_or}
 use Rattle.lattice.specs.Orders.{cellwise}
 
+-- a value above 0 is one of the list
+pub positive_within : (x : List ℕ) (i : ℕ) → 0 < get_or x i 0 → i < length x
+positive_within x i h = ⊎_elim (λ (k : i < length x). k) (λ (past : length x ≤ i). absurd (omega (arith, get_or_past x i 0 past))) (cases_lt i (length x))
+
 -- where no value is found above the bound
 pub none_above : (x : List ℕ) (b : ℕ) → ((i : ℕ) → position (ltb b) x ≡ Some i → ⊥) → (k : ℕ) → get_or x k 0 ≤ b
 none_above x b none k =

@@ -1,9 +1,25 @@
--- A walk through the four directions, and the neighbours that it has seen.
-use Rattle.std.proofs.Common.{◌≡◌, ℕ, ◌+◌, ◌<◌, ◌≤◌, List, [], ◌∷◌, ◌++◌, length, get_or, take, ℤ, pos, Some, None, Option, sym, ap, ◌∙◌, arith}
+-- The cell at a row and a column; a walk through the four directions, and the neighbours that it has seen.
+use Rattle.std.specs.Prelude.{◌*◌, true, false, ◌&&◌, nat_lt, refl}
+use Rattle.std.proofs.Common.{⊎_elim, ◌≡◌, ℕ, ◌+◌, ◌<◌, ◌≤◌, List, [], ◌∷◌, ◌++◌, length, get_or, take, ℤ, pos, Some, None, Option, sym, ap, ◌∙◌, arith}
 use Rattle.std.specs.List.{flat_map}
 use Rattle.std.specs.Option.{option_to_list}
 use Rattle.std.proofs.lemmas.List.{length-append, take_more, flat_map_more}
-use Rattle.lattice.specs.Grid.{Extent, beside, directions, neighbours}
+use Rattle.std.proofs.lemmas.Bool.{and_parts, cases_Bool, lt-ltb, ltb-true}
+use Rattle.lattice.specs.Grid.{Extent, beside, cell_at, directions, neighbours}
+
+-- a row and a column that the grid has
+pub cell_parts : (e : Extent) (r c j : ℕ) → cell_at e (pos r) (pos c) ≡ Some j → (r < e.rows) × (c < e.columns) × (j ≡ r * e.columns + c)
+cell_parts e r c j h =
+    ⊎_elim
+    (λ (t : (nat_lt r e.rows && nat_lt c e.columns) ≡ true).
+    let both = and_parts (nat_lt r e.rows) (nat_lt c e.columns) t in
+    let some : Some (r * e.columns + c) ≡ Some j = rw t at h in
+    (ltb-true r e.rows both.0, ltb-true c e.columns both.1, cc))
+    (λ (f : (nat_lt r e.rows && nat_lt c e.columns) ≡ false). let none : None ≡ Some j = rw f at h in cc)
+    (cases_Bool (nat_lt r e.rows && nat_lt c e.columns))
+
+pub cell_from : (e : Extent) (r c : ℕ) → r < e.rows → c < e.columns → cell_at e (pos r) (pos c) ≡ Some (r * e.columns + c)
+cell_from e r c low left = rw (lt-ltb r e.rows low, lt-ltb c e.columns left) refl
 
 -- the neighbours in the first n directions
 abbrev pub seen : Extent → ℕ → ℕ → List ℕ

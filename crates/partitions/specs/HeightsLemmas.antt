@@ -6,7 +6,7 @@ use Rattle.std.proofs.lemmas.Bool.{cases_eq, cases_lt}
 use Rattle.std.proofs.lemmas.Bool.Decides.{nat_tests}
 use Rattle.lattice.specs.Grid.{Extent, cell_count}
 use Rattle.lattice.specs.Orders.{cellwise}
-use Rattle.lattice.proofs.Cells.{cellwise_set}
+use Rattle.lattice.proofs.Cells.{cellwise_set, positive_within}
 use Rattle.partitions.specs.Heights.{Falling, cell_above, cell_below, cell_left, cell_right, height_or, highest, lowest}
 use Rattle.partitions.specs.Sides.{above_before, above_of_below, below_of_above, left_before, left_of_right, right_of_left}
 
@@ -35,10 +35,6 @@ set_at_most : (x : List ℕ) (i v : ℕ) → slice_index (slice_set x i v) i ≤
 set_at_most [] i v = omega arith
 set_at_most (a ∷ x) zero v = le_refl v
 set_at_most (a ∷ x) (suc i) v = set_at_most x i v
-
--- only a cell of the list has a height above 0
-positive_within : (x : List ℕ) (i : ℕ) → 0 < slice_index x i → i < length x
-positive_within x i h = ⊎_elim (λ (k : i < length x). k) (λ (past : length x ≤ i). absurd (omega (arith, get_or_past x i 0 past))) (cases_lt i (length x))
 
 -- a list is below itself with one value raised, and as it was where the old value is written again
 set_raises : (x : List ℕ) (i v : ℕ) → slice_index x i ≤ v → cellwise x (slice_set x i v)

@@ -1,25 +1,11 @@
 -- Which cells lie left, right, above and below of one another.
-use Rattle.std.specs.Prelude.{◌≡◌, ℕ, suc, ◌+◌, ◌-◌, ◌*◌, ◌/◌, ◌%◌, ◌<◌, ◌≤◌, Bool, true, false, cond, ◌&&◌, ltb, pos, negsuc, Some, None, nat_lt, refl}
+use Rattle.std.specs.Prelude.{◌≡◌, ℕ, suc, ◌+◌, ◌-◌, ◌*◌, ◌/◌, ◌%◌, ◌<◌, ◌≤◌, Bool, true, false, cond, ltb, pos, negsuc, Some, None, nat_lt}
 use Rattle.std.proofs.Common.{⊎_elim, ap, subst, ◌∙◌, add-zero, mod-lt, suc-mul, arith}
 use Rattle.std.proofs.lemmas.Nat.{div-add-mod', div_below, div-mul-add, mod-mul-add}
-use Rattle.std.proofs.lemmas.Bool.{and_parts, cases_Bool, ltb-true, ltb-false, lt-ltb, le-ltb}
+use Rattle.std.proofs.lemmas.Bool.{cases_Bool, ltb-false, le-ltb}
 use Rattle.lattice.specs.Grid.{Extent, cell_at, cell_count}
+use Rattle.lattice.proofs.Neighbours.{cell_from, cell_parts}
 use Rattle.partitions.specs.Heights.{cell_above, cell_below, cell_left, cell_right}
-
--- the cell at a row and a column of the grid
-cell_parts : (e : Extent) (r c j : ℕ) → cell_at e (pos r) (pos c) ≡ Some j → (r < e.rows) × (c < e.columns) × (j ≡ r * e.columns + c)
-cell_parts e r c j h =
-    let P : Bool → Type 0 = λ t. cond t (Some (r * e.columns + c)) None ≡ Some j in
-    ⊎_elim
-    (λ (t : (nat_lt r e.rows && nat_lt c e.columns) ≡ true).
-    let p = and_parts (nat_lt r e.rows) (nat_lt c e.columns) t in
-    let some : Some (r * e.columns + c) ≡ Some j = subst P t h in
-    (ltb-true r e.rows p.0, ltb-true c e.columns p.1, cc))
-    (λ (f : (nat_lt r e.rows && nat_lt c e.columns) ≡ false). let none : None ≡ Some j = subst P f h in cc)
-    (cases_Bool (nat_lt r e.rows && nat_lt c e.columns))
-
-cell_from : (e : Extent) (r c : ℕ) → r < e.rows → c < e.columns → cell_at e (pos r) (pos c) ≡ Some (r * e.columns + c)
-cell_from e r c h k = rw (lt-ltb r e.rows h, lt-ltb c e.columns k) refl
 
 left_parts : (e : Extent) (i j : ℕ) → cell_left e i ≡ Some j → (i / e.columns < e.rows) × (1 ≤ i % e.columns) × (i % e.columns < e.columns) × (j ≡ i / e.columns * e.columns + (i % e.columns - 1))
 left_parts e i j h =
