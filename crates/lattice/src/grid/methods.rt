@@ -12,19 +12,6 @@ use crate::fault::StateFault;
 use crate::shape::Shape;
 use std::alloc::{AllocError, Global};
 
-fn same_bytes(first: &[u8], second: &[u8]) -> bool
-    ensures { Decides result (first.now ≡ second.now) }
-{
-    first == second
-}
-
-fn fill_cells(cells: &mut Vec<u8>, value: u8)
-    ensures items { cells.new.items ≡ replicate (vec_len cells.old) value }
-    ensures len { vec_len cells.new ≡ vec_len cells.old }
-{
-    cells.as_mut_slice().fill(value);
-}
-
 // Writes at each index the value that `value_of` gives for it.
 fn write_each<F: Fn(usize) -> u8>(cells: &mut [u8], value_of: F)
     requires { F.IsAlwaysCallable value_of }
@@ -86,7 +73,7 @@ impl Grid {
         ensures writes { grid_cells self.new ≡ replicate (cell_count (grid_extent self.old)) value }
         ensures keeps { grid_extent self.new ≡ grid_extent self.old }
     {
-        fill_cells(&mut self.cells, value);
+        self.cells.as_mut_slice().fill(value);
     }
 
     // Writes into each cell the value that `value_of` gives for it.
@@ -145,6 +132,6 @@ impl Grid {
     {
         self.own(shape)?;
         other.own(shape)?;
-        Ok(same_bytes(self.cells.as_slice(), other.cells.as_slice()))
+        Ok(self.cells == other.cells)
     }
 }
