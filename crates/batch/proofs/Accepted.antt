@@ -1,5 +1,5 @@
 -- When a try is accepted, and what it then reads.
-use Rattle.std.proofs.Common.{◌≡◌, ℕ, ◌<◌, Bool, true, false, ◌&&◌, ltb, leb, ◌⊎◌, List, sym, refl, ap, ◌∙◌, inl, inr, ⊎_elim}
+use Rattle.std.proofs.Common.{◌≡◌, ℕ, ◌<◌, Bool, true, false, ◌&&◌, ltb, leb, ◌⊎◌, List, sym, refl, ap, ◌∙◌, inl, inr}
 use Rattle.std.proofs.lemmas.Bool.{and_from, and_parts, le-leb, leb-true, lt-ltb, ltb-true}
 use Rattle.coupling.specs.Lead.{Ends, apart_at, met_in, outcome}
 use Rattle.coupling.specs.Windows.{CanFill, draw_place, window_words}
@@ -53,10 +53,10 @@ which (refused c) = inr (c, refl)
 -- a try that answers met or apart was accepted
 pub answered : (s : Setting) (m : Machine) (st : DrawAndStates) (T : ℕ) (b : Bool) → (try_report s m st T).answer ≡ given b → Accepted s m st T
 answered s m st T b e =
-    ⊎_elim
-    (λ (h : (ws : List ℕ) × (given ws ≡ words_of_try s m st T)). (accepted_when s m st T h.0 h.1).0)
-    (λ (h : (c : Refusal) × (refused c ≡ words_of_try s m st T)). cc (ap (λ (a : Answer (List ℕ)). (report_of s m st T a).answer) h.1, e))
-    (which (words_of_try s m st T))
+    elim (which (words_of_try s m st T)) [
+      | inl h ↦ (accepted_when s m st T h.0 h.1).0
+      | inr h ↦ cc (ap (λ (a : Answer (List ℕ)). (report_of s m st T a).answer) h.1, e)
+    ]
 
 -- what an accepted try reports
 pub accepted_report : (s : Setting) (m : Machine) (st : DrawAndStates) (T : ℕ) → Accepted s m st T → try_report s m st T ≡ ends_report m st.draw T (outcome s.rule (window_words s.source m.stretch st.draw.number T))

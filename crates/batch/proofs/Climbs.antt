@@ -1,6 +1,5 @@
 -- The turns of a run's loop, in terms of the draw's values.
-use Rattle.std.proofs.Common.{◌≡◌, ℕ, ◌+◌, ◌^◌, true, false, ◌&&◌, ltb, List, sym, ap, ◌∙◌, subst, ⊎_elim}
-use Rattle.std.proofs.lemmas.Bool.{and_from, and_parts, both_ways, cases_Bool, lt-ltb, ltb-true}
+use Rattle.std.proofs.Common.{◌≡◌, ℕ, ◌+◌, ◌^◌, false, List, sym, ap, ◌∙◌, subst, inl, inr}
 use Rattle.lattice.specs.Grid.{Extent}
 use Rattle.refusal.specs.Refusals.{given}
 use Rattle.batch.specs.Ends.{SameExtents, Two, two}
@@ -11,7 +10,7 @@ use Rattle.batch.specs.Tries.{Report, Setting, DrawAndStates, try_report, with_t
 use Rattle.batch.specs.declared.draws.Batch.{Batch}
 use Rattle.batch.specs.declared.draws.OpenDraw.{OpenDraw}
 use Rattle.batch.proofs.Accepted.{apart_machine}
-use Rattle.batch.proofs.Runs.{ends_early, ends_last, goes_on, passes}
+use Rattle.batch.proofs.Runs.{between, ends_early, ends_last, goes_on, passes}
 
 same_draw : (d e : Draw) → open_draw d ≡ open_draw e → d ≡ e
 same_draw d e same = cc
@@ -38,30 +37,25 @@ module _ (s : Setting) (d now : OpenDraw) (t tn : Two) where
   pub again : (after : OpenDraw) (ta : Two) (k T : ℕ) → T ≡ 2 ^ k → now.batch ≡ d.batch → SameExtents tn ta → ComesTo s before first (2 ^ k) here → ◌≡◌ {A = Report} (record { answer = given false; machine = open_machine after; low = ta.low; high = ta.high }) (doubled_report s (open_machine now) here T) → ComesTo s before first (2 ^ (k + 1)) (with_two (open_one after) ta)
   again after ta k T window same keeps comes reports =
       let doubled = reports ∙ doubled_same s d now here T (2 ^ k) same window in
-      ⊎_elim
-      (λ (t : (ltb now.tried (2 ^ k) && ltb (2 ^ k) d.batch.stretch) ≡ true).
-      let tried : ◌≡◌ {A = Report} (record { answer = given false; machine = open_machine after; low = ta.low; high = ta.high }) (try_report s before here (2 ^ k)) = rw t at doubled in
-      let parts = and_parts _ _ t in
-      let apart = sym (ap (λ (r : Report). r.answer) tried) in
-      let draw = same_draw _ _ (ap (λ (r : Report). r.machine.out) tried ∙ ap (λ (n : Machine). n.out) (apart_machine s before here (2 ^ k) apart)) in
-      goes_on s before first k here (with_two (open_one after) ta) comes (ltb-true _ _ parts.0) (ltb-true _ _ parts.1) apart
-      (same_draw_and_states _ _ _ _ _ _ _ _ _ _ draw keeps.0 keeps.1 (ap (λ (r : Report). r.low) tried) (ap (λ (r : Report). r.high) tried)))
-      (λ (t : (ltb now.tried (2 ^ k) && ltb (2 ^ k) d.batch.stretch) ≡ false).
-      let passed : ◌≡◌ {A = Report} (record { answer = given false; machine = open_machine after; low = ta.low; high = ta.high }) (record { answer = given false; machine = with_out before (open_draw here.draw); low = tn.low; high = tn.high }) = rw t at doubled in
-      let draw = same_draw _ _ (ap (λ (r : Report). r.machine.out) passed) in
-      let on = passes s before first k here comes (λ larger below. both_ways _ t (and_from _ _ (lt-ltb _ _ larger) (lt-ltb _ _ below))) in
-      subst (ComesTo s before first (2 ^ (k + 1))) (sym (same_draw_and_states _ _ _ _ _ _ _ _ _ _ draw keeps.0 keeps.1 (ap (λ (r : Report). r.low) passed) (ap (λ (r : Report). r.high) passed))) on)
-      (cases_Bool (ltb now.tried (2 ^ k) && ltb (2 ^ k) d.batch.stretch))
+      elim (between now.tried (2 ^ k) d.batch.stretch) [
+        | inl t ↦ let tried : ◌≡◌ {A = Report} (record { answer = given false; machine = open_machine after; low = ta.low; high = ta.high }) (try_report s before here (2 ^ k)) = rw t.0 at doubled in
+            let apart = sym (ap (λ (r : Report). r.answer) tried) in
+            let draw = same_draw _ _ (ap (λ (r : Report). r.machine.out) tried ∙ ap (λ (n : Machine). n.out) (apart_machine s before here (2 ^ k) apart)) in
+            goes_on s before first k here (with_two (open_one after) ta) comes t.1 t.2 apart
+            (same_draw_and_states _ _ _ _ _ _ _ _ _ _ draw keeps.0 keeps.1 (ap (λ (r : Report). r.low) tried) (ap (λ (r : Report). r.high) tried))
+        | inr t ↦ let passed : ◌≡◌ {A = Report} (record { answer = given false; machine = open_machine after; low = ta.low; high = ta.high }) (record { answer = given false; machine = with_out before (open_draw here.draw); low = tn.low; high = tn.high }) = rw t.0 at doubled in
+            let draw = same_draw _ _ (ap (λ (r : Report). r.machine.out) passed) in
+            let on = passes s before first k here comes t.1 in
+            subst (ComesTo s before first (2 ^ (k + 1))) (sym (same_draw_and_states _ _ _ _ _ _ _ _ _ _ draw keeps.0 keeps.1 (ap (λ (r : Report). r.low) passed) (ap (λ (r : Report). r.high) passed))) on
+      ]
 
   pub early : (k T : ℕ) (report : Report) → T ≡ 2 ^ k → now.batch ≡ d.batch → ComesTo s before first (2 ^ k) here → report ≡ doubled_report s (open_machine now) here T → (report.answer ≡ given false → ⊥) → RunReports s before first report
   early k T report window same comes reports ends =
       let doubled = reports ∙ doubled_same s d now here T (2 ^ k) same window in
-      ⊎_elim
-      (λ (t : (ltb now.tried (2 ^ k) && ltb (2 ^ k) d.batch.stretch) ≡ true).
-      let parts = and_parts _ _ t in
-      ends_early s before first k here report comes (ltb-true _ _ parts.0) (ltb-true _ _ parts.1) (rw t at doubled) ends)
-      (λ (t : (ltb now.tried (2 ^ k) && ltb (2 ^ k) d.batch.stretch) ≡ false). absurd (ends (ap (λ (r : Report). r.answer) (rw t at doubled))))
-      (cases_Bool (ltb now.tried (2 ^ k) && ltb (2 ^ k) d.batch.stretch))
+      elim (between now.tried (2 ^ k) d.batch.stretch) [
+        | inl t ↦ ends_early s before first k here report comes t.1 t.2 (rw t.0 at doubled) ends
+        | inr t ↦ absurd (ends (ap (λ (r : Report). r.answer) (rw t.0 at doubled)))
+      ]
 
   pub last : (k T : ℕ) (report : Report) → k ≡ 20 → T ≡ d.batch.stretch → now.batch ≡ d.batch → ComesTo s before first (2 ^ k) here → report ≡ try_report s (open_machine now) here T → RunReports s before first report
   last k T report end window same comes reports =

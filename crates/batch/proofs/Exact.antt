@@ -1,11 +1,10 @@
 -- In every history answers are exact, and agreeing histories sample alike.
-use Rattle.std.proofs.Common.{◌≡◌, ℕ, [], ◌∷◌, sym, ap, ◌∙◌, subst, ⊎_elim}
+use Rattle.std.proofs.Common.{◌≡◌, ℕ, [], ◌∷◌, sym, ap, ◌∙◌, subst, inl, inr}
 use Rattle.coupling.proofs.Samples.{agreeing_sources}
 use Rattle.coupling.specs.Lead.{met_in, outcome}
 use Rattle.coupling.specs.Windows.{CanFill, window_words}
 use Rattle.lattice.specs.Kind.{Bounded, Closed, Monotone, Ordered}
 use Rattle.sources.specs.Sources.{Sound}
-use Rattle.batch.specs.Histories.{Has}
 use Rattle.batch.specs.Machine.{Machine}
 use Rattle.batch.specs.Promises.{HoldsInEveryHistory}
 use Rattle.batch.specs.Samples.{AgreeingHistoriesSampleAlike, AnswersAreExact, with_source}
@@ -18,12 +17,11 @@ exact s ordered bounded closed monotone sound [] m history e has = absurd has
 exact s ordered bounded closed monotone sound (f ∷ es) m history e has =
     let before = history.0 in
     let stretch = sym (carried_stretch s f.states before before.out f.request f.response history.2) ∙ ap (λ (x : Machine). x.stretch) (sym history.3) in
-    ⊎_elim
-    (λ (same : e ≡ f).
-    subst (λ (n : ℕ). Exact s n e) stretch
-    (subst (Exact s before.stretch) (sym same) (carried_exact s ordered bounded closed monotone sound f.states before before.out f.request f.response history.2)))
-    (λ (older : Has es e). subst (λ (n : ℕ). Exact s n e) stretch (exact s ordered bounded closed monotone sound es before history.1 e older))
-    has
+    elim has [
+      | inl same ↦ subst (λ (n : ℕ). Exact s n e) stretch
+          (subst (Exact s before.stretch) (sym same) (carried_exact s ordered bounded closed monotone sound f.states before before.out f.request f.response history.2))
+      | inr older ↦ subst (λ (n : ℕ). Exact s n e) stretch (exact s ordered bounded closed monotone sound es before history.1 e older)
+    ]
 
 pub alike : (s : Setting) (ordered : Ordered s.rule) (bounded : Bounded s.rule) (closed : Closed s.rule) (monotone : Monotone s.rule) (sound : Sound s.source) → AgreeingHistoriesSampleAlike s
 alike s ordered bounded closed monotone sound q also agree es fs m n h k same e f has too met meets c d out comes number =

@@ -1,6 +1,6 @@
 -- What a request that was answered met or apart has found, and that no request changes the stretch.
-use Rattle.std.proofs.Common.{◌≡◌, ℕ, ◌≤◌, Bool, true, false, ltb, ◌⊎◌, List, sym, refl, ap, ◌∙◌, inl, inr, ⊎_elim, arith}
-use Rattle.std.proofs.lemmas.Bool.{both_ways, cases_Bool}
+use Rattle.std.proofs.Common.{◌≡◌, ℕ, ◌≤◌, Bool, true, false, ltb, ◌⊎◌, List, sym, refl, ap, ◌∙◌, inl, inr, arith}
+use Rattle.std.proofs.lemmas.Bool.{cases_Bool}
 use Rattle.coupling.proofs.Filled.{window_is_words}
 use Rattle.coupling.proofs.Samples.{larger_windows}
 use Rattle.coupling.proofs.Sandwich.{apart_where_some_differ, meets_where_all_end}
@@ -33,21 +33,19 @@ Exact s stretch e =
 
 -- an answer that is none of a try
 pub quiet : (s : Setting) (stretch : ℕ) (e : Event) → is_tried e.response.said ≡ false → Exact s stretch e
-quiet s stretch e untried = (λ met. absurd (both_ways _ untried (ap is_tried met)), λ apart. absurd (both_ways _ untried (ap is_tried apart)), λ tried. absurd (both_ways _ untried tried))
+quiet s stretch e untried = (λ met. cc, λ apart. cc, λ tried. cc)
 
 -- a run reports as a try does, or is refused
 pub run_report : (s : Setting) (m : Machine) (st : DrawAndStates) (report : Report) → RunReports s m st report → ((now : DrawAndStates) × (T : ℕ) × (report ≡ try_report s m now T)) ⊎ ((c : Refusal) × (report ≡ refused_report m st c))
 run_report s m st report h =
-    ⊎_elim
-    (λ (own : owned s st ≡ true).
-    ⊎_elim
-    (λ (more : ltb st.draw.tried m.stretch ≡ true).
-    let ends : (T : ℕ) × EndsAt s m st report T = rw more at (rw own at h) in
-    inl (ends.1.now, ends.0, ends.1.reports))
-    (λ (done : ltb st.draw.tried m.stretch ≡ false). inr (tried_refusal, rw done at (rw own at h)))
-    (cases_Bool (ltb st.draw.tried m.stretch)))
-    (λ (foreign : owned s st ≡ false). inr (state_refusal Foreign, rw foreign at h))
-    (cases_Bool (owned s st))
+    elim (cases_Bool (owned s st)) [
+      | inl own ↦ elim (cases_Bool (ltb st.draw.tried m.stretch)) [
+        | inl more ↦ let ends : (T : ℕ) × EndsAt s m st report T = rw more at (rw own at h) in
+            inl (ends.1.now, ends.0, ends.1.reports)
+        | inr done ↦ inr (tried_refusal, rw done at (rw own at h))
+      ]
+      | inr foreign ↦ inr (state_refusal Foreign, rw foreign at h)
+    ]
 
 module _ (s : Setting) (ordered : Ordered s.rule) (bounded : Bounded s.rule) (closed : Closed s.rule) (monotone : Monotone s.rule) (sound : Sound s.source) where
   -- every start ends in y, from window T and from larger ones
@@ -78,21 +76,19 @@ module _ (s : Setting) (ordered : Ordered s.rule) (bounded : Bounded s.rule) (cl
   -- a try, of the window that its request names
   try_exact : (q : Request) (t : Two) (m : Machine) (st : DrawAndStates) (T : ℕ) (sc : Response) → ((U : ℕ) → q ≡ Try U → T ≡ U) → sc ≡ reported (try_report s m st T) → Exact s m.stretch (event q t sc)
   try_exact q t m st T sc window is =
-      ⊎_elim
-      (λ (w : (ws : List ℕ) × (given ws ≡ words_of_try s m st T)).
-      let a = (accepted_when s m st T w.0 w.1).0 in
-      rw (is, accepted_report s m st T a) (ends_exact q t m st.draw T _ window a.fills refl))
-      (λ (w : (c : Refusal) × (refused c ≡ words_of_try s m st T)).
-      let report = ap (report_of s m st T) (sym w.1) in
-      quiet s m.stretch (event q t sc) (ap (λ (x : Response). is_tried x.said) (is ∙ ap reported report)))
-      (which (words_of_try s m st T))
+      elim (which (words_of_try s m st T)) [
+        | inl w ↦ let a = (accepted_when s m st T w.0 w.1).0 in
+            rw (is, accepted_report s m st T a) (ends_exact q t m st.draw T _ window a.fills refl)
+        | inr w ↦ let report = ap (report_of s m st T) (sym w.1) in
+            quiet s m.stretch (event q t sc) (ap (λ (x : Response). is_tried x.said) (is ∙ ap reported report))
+      ]
 
   run_exact : (t : Two) (m : Machine) (st : DrawAndStates) (report : Report) (sc : Response) → RunReports s m st report → sc ≡ reported report → Exact s m.stretch (event Run t sc)
   run_exact t m st report sc run is =
-      ⊎_elim
-      (λ (h : (now : DrawAndStates) × (T : ℕ) × (report ≡ try_report s m now T)). try_exact Run t m h.0 h.1 sc (λ U e. cc) (is ∙ ap reported h.2))
-      (λ (h : (c : Refusal) × (report ≡ refused_report m st c)). quiet s m.stretch (event Run t sc) (ap (λ (x : Response). is_tried x.said) (is ∙ ap reported h.1)))
-      (run_report s m st report run)
+      elim (run_report s m st report run) [
+        | inl h ↦ try_exact Run t m h.0 h.1 sc (λ U e. cc) (is ∙ ap reported h.2)
+        | inr h ↦ quiet s m.stretch (event Run t sc) (ap (λ (x : Response). is_tried x.said) (is ∙ ap reported h.1))
+      ]
 
   beside : (q : Request) (stretch : ℕ) (sc : Response) (said : Said) (m : Machine) (t : Two) → is_tried said ≡ false → sc ≡ states_kept said m t → Exact s stretch (event q t sc)
   beside q stretch sc said m t untried is = quiet s stretch (event q t sc) (ap (λ (x : Response). is_tried x.said) is ∙ untried)
@@ -121,10 +117,10 @@ try_stretch s m st T = report_stretch s m st T (words_of_try s m st T)
 
 run_stretch : (s : Setting) (m : Machine) (st : DrawAndStates) (report : Report) → RunReports s m st report → report.machine.stretch ≡ m.stretch
 run_stretch s m st report run =
-    ⊎_elim
-    (λ (h : (now : DrawAndStates) × (T : ℕ) × (report ≡ try_report s m now T)). ap (λ (r : Report). r.machine.stretch) h.2 ∙ try_stretch s m h.0 h.1)
-    (λ (h : (c : Refusal) × (report ≡ refused_report m st c)). ap (λ (r : Report). r.machine.stretch) h.1)
-    (run_report s m st report run)
+    elim (run_report s m st report run) [
+      | inl h ↦ ap (λ (r : Report). r.machine.stretch) h.2 ∙ try_stretch s m h.0 h.1
+      | inr h ↦ ap (λ (r : Report). r.machine.stretch) h.1
+    ]
 
 open_stretch : (m : Machine) (b : Bool) (c : Refusal) → (left_after (provided b c (given (one_opened m))) m).stretch ≡ m.stretch
 open_stretch m true c = refl

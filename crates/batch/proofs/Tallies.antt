@@ -1,8 +1,8 @@
 -- The counts of a batch, along every history without runs.
-use Rattle.std.proofs.Common.{◌≡◌, ℕ, ◌+◌, ◌<◌, Bool, true, false, List, [], ◌∷◌, Some, sym, refl, ap, ◌∙◌, subst, ⊎_elim, arith, rules}
-use Rattle.std.proofs.lemmas.Bool.{false≢true, lt-ltb}
+use Rattle.std.proofs.Common.{◌≡◌, ℕ, ◌+◌, ◌<◌, Bool, true, false, List, [], ◌∷◌, Some, sym, refl, ap, ◌∙◌, subst, inl, inr, arith, rules}
+use Rattle.std.proofs.lemmas.Bool.{lt-ltb}
 use Rattle.coupling.specs.Lead.{Ends, apart_at, met_in, outcome}
-use Rattle.refusal.specs.Refusals.{Refusal, given, provided, refused}
+use Rattle.refusal.specs.Refusals.{Refusal, given, provided}
 use Rattle.batch.specs.Histories.{Event, event}
 use Rattle.batch.specs.Machine.{Draw, Machine, Out, drawn, left_after, met_draw, new_answer, new_machine, none, one_closed, one_given_up, one_opened, open_draw, with_out}
 use Rattle.batch.specs.Ends.{Two}
@@ -103,15 +103,13 @@ same_out m o e = ap (with_out m) e
 pub try_step : (s : Setting) (t : Two) (es : List Event) (m : Machine) (d : Draw) (T : ℕ) (sc : Response) → m.out ≡ open_draw d → sc ≡ reported (try_report s m (with_two d t) T) → Tallies es m → With (Try T) t es sc
 try_step s t es m d T sc is_open is h =
     let st = with_two d t in
-    ⊎_elim
-    (λ (w : (ws : List ℕ) × (given ws ≡ words_of_try s m st T)).
-    let report = ap (report_of s m st T) (sym w.1) in
-    subst (With (Try T) t es) (sym (is ∙ ap reported report)) (ends_step t es m d T (outcome s.rule w.0) is_open (accepted_when s m st T w.0 w.1).0.larger h))
-    (λ (w : (c : Refusal) × (refused c ≡ words_of_try s m st T)).
-    let report = ap (report_of s m st T) (sym w.1) in
-    let same = subst (Tallies es) (same_out m (open_draw d) is_open) h in
-    subst (With (Try T) t es) (sym (is ∙ ap reported report)) (search rules))
-    (which (words_of_try s m st T))
+    elim (which (words_of_try s m st T)) [
+      | inl w ↦ let report = ap (report_of s m st T) (sym w.1) in
+          subst (With (Try T) t es) (sym (is ∙ ap reported report)) (ends_step t es m d T (outcome s.rule w.0) is_open (accepted_when s m st T w.0 w.1).0.larger h)
+      | inr w ↦ let report = ap (report_of s m st T) (sym w.1) in
+          let same = subst (Tallies es) (same_out m (open_draw d) is_open) h in
+          subst (With (Try T) t es) (sym (is ∙ ap reported report)) (search rules)
+    ]
 
 abbrev pub is_run : Request → Bool
 is_run Run = true
@@ -119,7 +117,7 @@ is_run _ = false
 
 -- a request that is no run
 pub tally_step : (s : Setting) (t : Two) (es : List Event) (m : Machine) (o : Out) (q : Request) (sc : Response) → m.out ≡ o → is_run q ≡ false → CarriesByDraw s t m o q sc → Tallies es m → With q t es sc
-tally_step s t es m o Run sc out plain carries h = absurd (false≢true (sym plain))
+tally_step s t es m o Run sc out plain carries h = cc
 tally_step s t es m none Open sc out plain is h = open_step t es m _ _ sc out is h
 tally_step s t es m (open_draw d) (Try T) sc out plain is h = try_step s t es m d T sc out is h
 tally_step s t es m (open_draw d) GiveUp sc out plain is h = subst (With GiveUp t es) (sym is) (given_up_adds t _ _ _ es m d out h)

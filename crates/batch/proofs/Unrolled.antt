@@ -1,12 +1,12 @@
 -- A run as its tries.
-use Rattle.std.proofs.Common.{◌≡◌, ℕ, zero, suc, ◌+◌, ◌^◌, ◌<◌, ◌≤◌, true, false, ◌&&◌, ltb, ◌⊎◌, List, [], ◌∷◌, ◌++◌, sym, refl, ap, ◌∙◌, subst, inl, inr, ⊎_elim, arith}
+use Rattle.std.proofs.Common.{◌≡◌, ℕ, zero, suc, ◌+◌, ◌^◌, ◌<◌, ◌≤◌, false, ltb, ◌⊎◌, List, [], ◌∷◌, ◌++◌, sym, refl, ap, ◌∙◌, subst, inl, inr, arith}
 use Rattle.std.proofs.lemmas.Nat.{pow_below}
-use Rattle.std.proofs.lemmas.Bool.{and_from, and_parts, both_ways, cases_Bool, le-leb, lt-ltb, ltb-true}
+use Rattle.std.proofs.lemmas.Bool.{and_from, both_ways, cases_Bool, le-leb, lt-ltb}
 use Rattle.coupling.specs.Windows.{CanFill}
 use Rattle.lattice.specs.Faults.{state_refusal}
 use Rattle.lattice.specs.declared.fault.StateFault.TheVariants.{Foreign}
 use Rattle.batch.specs.Faults.{tried_refusal}
-use Rattle.batch.specs.Histories.{Event, Has, History, event}
+use Rattle.batch.specs.Histories.{Event, History, event}
 use Rattle.batch.specs.Machine.{Machine, open_draw, with_out}
 use Rattle.batch.specs.Requests.{reported, said_try}
 use Rattle.batch.specs.Runs.{AnswersApart, ComesTo, Doubled, EndsAt, LeftBefore, RunReports, left_apart}
@@ -14,7 +14,7 @@ use Rattle.batch.specs.Tallies.{DoubledTries, Tallies, TriesOfRun}
 use Rattle.batch.specs.Tries.{Report, Setting, DrawAndStates, owned, refused_report, try_report}
 use Rattle.batch.specs.declared.stage.Request.TheVariants.{Try}
 use Rattle.batch.proofs.Accepted.{Accepted, answered, apart_machine, same_report}
-use Rattle.batch.proofs.Runs.{goes_on, next_power, not_doubled, number_kept, own_kept, passes, starts, to_stretch, tried_up}
+use Rattle.batch.proofs.Runs.{between, goes_on, next_power, not_doubled, number_kept, own_kept, passes, starts, to_stretch, tried_up}
 use Rattle.batch.proofs.Tallies.{same_out, try_step}
 
 -- what was left before a window is one thing
@@ -71,22 +71,22 @@ module _ (s : Setting) (m : Machine) (st : DrawAndStates) (gs : List Event) wher
             record {
               each =
                   λ e has.
-                  ⊎_elim
-                  (λ (is : e ≡ event (Try (2 ^ k)) now.states sc). (
-                    2 ^ k,
-                    ap (λ (x : Event). x.request) is,
-                    record { larger = omega (arith, tried_up s m st (2 ^ k) now left, larger); below = below; power = (k, refl) },
-                    pow_below k (k + 1) (omega arith),
-                    ap (λ (x : Event). x.response.said) is ∙ ap said_try here,
-                  ))
-                  (λ (older : Has c.tries e). let d = c.doubled.each e older in (d.0, d.1, d.2, omega (arith, d.3, pow_below k (k + 1) (omega arith)), d.4))
-                  has;
+                  elim has [
+                    | inl is ↦ (
+                      2 ^ k,
+                      ap (λ (x : Event). x.request) is,
+                      record { larger = omega (arith, tried_up s m st (2 ^ k) now left, larger); below = below; power = (k, refl) },
+                      pow_below k (k + 1) (omega arith),
+                      ap (λ (x : Event). x.response.said) is ∙ ap said_try here,
+                    )
+                    | inr older ↦ let d = c.doubled.each e older in (d.0, d.1, d.2, omega (arith, d.3, pow_below k (k + 1) (omega arith)), d.4)
+                  ];
               all =
                   λ U doubled under.
-                  ⊎_elim
-                  (λ (less : U < 2 ^ k). let t = c.doubled.all U doubled less in (t.0, inr t.1, t.2))
-                  (λ (is : U ≡ 2 ^ k). (event (Try (2 ^ k)) now.states sc, inl refl, ap (λ (n : ℕ). Try n) (sym is)))
-                  (next_power k U doubled.power.0 doubled.power.1 under);
+                  elim (next_power k U doubled.power.0 doubled.power.1 under) [
+                    | inl less ↦ let t = c.doubled.all U doubled less in (t.0, inr t.1, t.2)
+                    | inr is ↦ (event (Try (2 ^ k)) now.states sc, inl refl, ap (λ (n : ℕ). Try n) (sym is))
+                  ];
             };
       }
 
@@ -107,10 +107,10 @@ module _ (s : Setting) (m : Machine) (st : DrawAndStates) (gs : List Event) wher
               each = λ e has. let d = c.doubled.each e has in (d.0, d.1, d.2, omega (arith, d.3, up), d.4);
               all =
                   λ U doubled under.
-                  ⊎_elim
-                  (λ (less : U < 2 ^ k). c.doubled.all U doubled less)
-                  (λ (is : U ≡ 2 ^ k). absurd (none (subst (Doubled m.stretch st.draw.tried) is doubled)))
-                  (next_power k U doubled.power.0 doubled.power.1 under);
+                  elim (next_power k U doubled.power.0 doubled.power.1 under) [
+                    | inl less ↦ c.doubled.all U doubled less
+                    | inr is ↦ absurd (none (subst (Doubled m.stretch st.draw.tried) is doubled))
+                  ];
             };
       }
 
@@ -121,15 +121,10 @@ module _ (s : Setting) (m : Machine) (st : DrawAndStates) (gs : List Event) wher
       let c = climb_to k is_open history tallies (λ U doubled under. apart U doubled (omega (arith, under, up))) in
       let more : k + 1 ≡ suc k = omega arith in
       subst Climbed more
-      (⊎_elim
-      (λ (t : (ltb c.now.draw.tried (2 ^ k) && ltb (2 ^ k) m.stretch) ≡ true).
-      let parts = and_parts _ _ t in
-      let larger = ltb-true _ _ parts.0 in
-      let below = ltb-true _ _ parts.1 in
-      let doubled : Doubled m.stretch st.draw.tried (2 ^ k) = record { larger = omega (arith, tried_up s m st (2 ^ k) c.now c.comes.left, larger); below = below; power = (k, refl) } in
-      another k c larger below (apart (2 ^ k) doubled up))
-      (λ (t : (ltb c.now.draw.tried (2 ^ k) && ltb (2 ^ k) m.stretch) ≡ false). skipped k c (λ larger below. both_ways _ t (and_from _ _ (lt-ltb _ _ larger) (lt-ltb _ _ below))))
-      (cases_Bool (ltb c.now.draw.tried (2 ^ k) && ltb (2 ^ k) m.stretch)))
+      (elim (between c.now.draw.tried (2 ^ k) m.stretch) [
+        | inl t ↦ another k c t.1 t.2 (apart (2 ^ k) (record { larger = omega (arith, tried_up s m st (2 ^ k) c.now c.comes.left, t.1); below = t.2; power = (k, refl) }) up)
+        | inr t ↦ skipped k c t.1
+      ])
 
   -- a run's tries lead where it does
   abbrev AsTries : Report → Type 0
@@ -147,27 +142,25 @@ module _ (s : Setting) (m : Machine) (st : DrawAndStates) (gs : List Event) wher
   -- the run that goes through its windows
   ran_through : m.out ≡ open_draw st.draw → History s gs m → Tallies gs m → m.stretch ≤ 2 ^ 20 → (report : Report) (T : ℕ) → EndsAt s m st report T → AsTries report
   ran_through is_open history tallies fits report T ends =
-      ⊎_elim
-      (λ (d : Doubled m.stretch st.draw.tried T).
-      let e = d.power.1 in
-      let comes = subst (λ (n : ℕ). ComesTo s m st n ends.now) e ends.comes in
-      let c = climb_to d.power.0 is_open history tallies comes.apart_below in
-      let same = left_once s m st (2 ^ d.power.0) c.now ends.now c.comes.left comes.left in
-      last_try T c.now report c.tries (inr d) (subst (λ (n : ℕ). DoubledTries m.stretch st.draw.tried n c.tries) (sym e) c.doubled) c.history c.tallies
-      (ends.reports ∙ ap (λ (x : DrawAndStates). try_report s m x T) (sym same)))
-      (λ (last : (T ≡ m.stretch) × (st.draw.tried < m.stretch)).
-      let comes = subst (λ (n : ℕ). ComesTo s m st n ends.now) last.0 ends.comes in
-      let c = climb_to 20 is_open history tallies (λ U doubled under. comes.apart_below U doubled doubled.below) in
-      let there = to_stretch s m st c.now c.comes fits in
-      let same = left_once s m st m.stretch c.now ends.now there.left comes.left in
-      last_try T c.now report c.tries (inl last.0)
-      (record {
-        each = λ e has. let d = c.doubled.each e has in (d.0, d.1, d.2, omega (arith, d.2.below, last.0), d.4);
-        all = λ U doubled under. c.doubled.all U doubled (omega (arith, doubled.below, fits));
-      })
-      c.history c.tallies
-      (ends.reports ∙ ap (λ (x : DrawAndStates). try_report s m x T) (sym same)))
-      ends.scheduled
+      elim ends.scheduled [
+        | inl d ↦ let e = d.power.1 in
+            let comes = subst (λ (n : ℕ). ComesTo s m st n ends.now) e ends.comes in
+            let c = climb_to d.power.0 is_open history tallies comes.apart_below in
+            let same = left_once s m st (2 ^ d.power.0) c.now ends.now c.comes.left comes.left in
+            last_try T c.now report c.tries (inr d) (subst (λ (n : ℕ). DoubledTries m.stretch st.draw.tried n c.tries) (sym e) c.doubled) c.history c.tallies
+            (ends.reports ∙ ap (λ (x : DrawAndStates). try_report s m x T) (sym same))
+        | inr last ↦ let comes = subst (λ (n : ℕ). ComesTo s m st n ends.now) last.0 ends.comes in
+            let c = climb_to 20 is_open history tallies (λ U doubled under. comes.apart_below U doubled doubled.below) in
+            let there = to_stretch s m st c.now c.comes fits in
+            let same = left_once s m st m.stretch c.now ends.now there.left comes.left in
+            last_try T c.now report c.tries (inl last.0)
+            (record {
+              each = λ e has. let d = c.doubled.each e has in (d.0, d.1, d.2, omega (arith, d.2.below, last.0), d.4);
+              all = λ U doubled under. c.doubled.all U doubled (omega (arith, doubled.below, fits));
+            })
+            c.history c.tallies
+            (ends.reports ∙ ap (λ (x : DrawAndStates). try_report s m x T) (sym same))
+      ]
 
   -- the least doubled window, if there is one
   abbrev NoDoubledBelow : ℕ → Type 0
@@ -176,23 +169,19 @@ module _ (s : Setting) (m : Machine) (st : DrawAndStates) (gs : List Event) wher
   least : (k : ℕ) → NoDoubledBelow (2 ^ k) ⊎ ((U : ℕ) × Doubled m.stretch st.draw.tried U × NoDoubledBelow U)
   least zero = inl (λ U doubled under. omega (arith, doubled.larger, under))
   least (suc k) =
-      ⊎_elim
-      (λ (none : NoDoubledBelow (2 ^ k)).
-      ⊎_elim
-      (λ (t : (ltb st.draw.tried (2 ^ k) && ltb (2 ^ k) m.stretch) ≡ true).
-      let parts = and_parts _ _ t in
-      inr (2 ^ k, record { larger = ltb-true _ _ parts.0; below = ltb-true _ _ parts.1; power = (k, refl) }, none))
-      (λ (t : (ltb st.draw.tried (2 ^ k) && ltb (2 ^ k) m.stretch) ≡ false).
-      let more : suc k ≡ k + 1 = omega arith in
-      inl
-      (λ U doubled under.
-      ⊎_elim
-      (λ (less : U < 2 ^ k). none U doubled less)
-      (λ (is : U ≡ 2 ^ k). let here = subst (Doubled m.stretch st.draw.tried) is doubled in both_ways _ t (and_from _ _ (lt-ltb _ _ here.larger) (lt-ltb _ _ here.below)))
-      (next_power k U doubled.power.0 doubled.power.1 (subst (λ (n : ℕ). U < 2 ^ n) more under))))
-      (cases_Bool (ltb st.draw.tried (2 ^ k) && ltb (2 ^ k) m.stretch)))
-      inr
-      (least k)
+      elim (least k) [
+        | inl none ↦ elim (between st.draw.tried (2 ^ k) m.stretch) [
+          | inl t ↦ inr (2 ^ k, record { larger = t.1; below = t.2; power = (k, refl) }, none)
+          | inr t ↦ let more : suc k ≡ k + 1 = omega arith in
+              inl
+              (λ U doubled under.
+              elim (next_power k U doubled.power.0 doubled.power.1 (subst (λ (n : ℕ). U < 2 ^ n) more under)) [
+                | inl less ↦ none U doubled less
+                | inr is ↦ let here = subst (Doubled m.stretch st.draw.tried) is doubled in t.1 here.larger here.below
+              ])
+        ]
+        | inr h ↦ inr h
+      ]
 
   untried : (T : ℕ) → NoDoubledBelow T → DoubledTries m.stretch st.draw.tried T []
   untried T none = record { each = λ e has. absurd has; all = λ U doubled under. absurd (none U doubled under) }
@@ -202,23 +191,19 @@ module _ (s : Setting) (m : Machine) (st : DrawAndStates) (gs : List Event) wher
       let same = same_out m (open_draw st.draw) is_open in
       let history_here = subst (History s gs) same history in
       let tallies_here = subst (Tallies gs) same tallies in
-      ⊎_elim
-      (λ (own : owned s st ≡ true).
-      ⊎_elim
-      (λ (more : ltb st.draw.tried m.stretch ≡ true).
-      let ends : (T : ℕ) × EndsAt s m st report T = rw more at (rw own at run) in
-      ran_through is_open history tallies fits report ends.0 ends.1)
-      (λ (done : ltb st.draw.tried m.stretch ≡ false).
-      let refusal : report ≡ refused_report m st tried_refusal = rw done at (rw own at run) in
-      let range = and_from _ _ (le-leb 1 m.stretch some) (le-leb m.stretch m.stretch (omega arith)) in
-      let tried : try_report s m st m.stretch ≡ refused_report m st tried_refusal = rw own rw range rw done refl in
-      last_try m.stretch st report [] (inl refl) (untried m.stretch (λ U doubled under. both_ways _ done (lt-ltb _ _ (omega (arith, doubled.larger, doubled.below))))) history_here tallies_here (refusal ∙ sym tried))
-      (cases_Bool (ltb st.draw.tried m.stretch)))
-      (λ (foreign : owned s st ≡ false).
-      let refusal : report ≡ refused_report m st (state_refusal Foreign) = rw foreign at run in
-      let tried : (T : ℕ) → try_report s m st T ≡ refused_report m st (state_refusal Foreign) = λ T. rw foreign refl in
-      ⊎_elim
-      (λ (none : NoDoubledBelow (2 ^ 20)). last_try m.stretch st report [] (inl refl) (untried m.stretch (λ U doubled under. none U doubled (omega (arith, under, fits)))) history_here tallies_here (refusal ∙ sym (tried m.stretch)))
-      (λ (first : (U : ℕ) × Doubled m.stretch st.draw.tried U × NoDoubledBelow U). last_try first.0 st report [] (inr first.1) (untried first.0 first.2) history_here tallies_here (refusal ∙ sym (tried first.0)))
-      (least 20))
-      (cases_Bool (owned s st))
+      elim (cases_Bool (owned s st)) [
+        | inl own ↦ elim (cases_Bool (ltb st.draw.tried m.stretch)) [
+          | inl more ↦ let ends : (T : ℕ) × EndsAt s m st report T = rw more at (rw own at run) in
+              ran_through is_open history tallies fits report ends.0 ends.1
+          | inr done ↦ let refusal : report ≡ refused_report m st tried_refusal = rw done at (rw own at run) in
+              let range = and_from _ _ (le-leb 1 m.stretch some) (le-leb m.stretch m.stretch (omega arith)) in
+              let tried : try_report s m st m.stretch ≡ refused_report m st tried_refusal = rw own rw range rw done refl in
+              last_try m.stretch st report [] (inl refl) (untried m.stretch (λ U doubled under. both_ways _ done (lt-ltb _ _ (omega (arith, doubled.larger, doubled.below))))) history_here tallies_here (refusal ∙ sym tried)
+        ]
+        | inr foreign ↦ let refusal : report ≡ refused_report m st (state_refusal Foreign) = rw foreign at run in
+            let tried : (T : ℕ) → try_report s m st T ≡ refused_report m st (state_refusal Foreign) = λ T. rw foreign refl in
+            elim (least 20) [
+              | inl none ↦ last_try m.stretch st report [] (inl refl) (untried m.stretch (λ U doubled under. none U doubled (omega (arith, under, fits)))) history_here tallies_here (refusal ∙ sym (tried m.stretch))
+              | inr first ↦ last_try first.0 st report [] (inr first.1) (untried first.0 first.2) history_here tallies_here (refusal ∙ sym (tried first.0))
+            ]
+      ]

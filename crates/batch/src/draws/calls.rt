@@ -16,18 +16,17 @@ impl Batch {
     pub fn new(stretch: u64) -> Result<Batch, StretchFault>
         ensures { answer batch_machine (λ _. stretch_refusal) result ≡ new_answer stretch }
     {
-        if stretch < 1 || stretch > u64::from(LIMIT) {
-            return Err(StretchFault);
+        match u32::try_from(stretch) {
+            Ok(stretch @ 1..=LIMIT) => Ok(Batch {
+                stretch,
+                tally: Tally {
+                    opened: 0,
+                    met: 0,
+                    given_up: 0,
+                },
+            }),
+            _ => Err(StretchFault),
         }
-        let tally = Tally {
-            opened: 0,
-            met: 0,
-            given_up: 0,
-        };
-        Ok(Batch {
-            stretch: stretch as u32,
-            tally,
-        })
     }
 
     // The next draw, with the token that ends it; or the batch back, once all its draws have been opened.

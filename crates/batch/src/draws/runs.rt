@@ -41,7 +41,7 @@ impl OpenDraw {
     {
         let stretch = u64::from(self.batch.stretch);
         for exponent in 0u32..20 {
-            if self.try_doubled(setting, power_of_two(exponent), ends)? {
+            if self.try_doubled(setting, 2u64.pow(exponent), ends)? {
                 return Ok(true);
             }
         }
@@ -65,11 +65,4 @@ impl OpenDraw {
         }
         self.attempt(setting, window, ends)
     }
-}
-
-fn power_of_two(exponent: u32) -> u64
-    requires { exponent < 20 }
-    ensures { result ≡ 2 ^ exponent }
-{
-    1 << exponent
 }

@@ -76,6 +76,7 @@ impl Stage {
         self.carry_out(request, setting, ends)
     }
 
+    // Does what the request asks, if it fits the stage.
     fn step<K: Kind, S: Source>(
         self,
         request: Request,
