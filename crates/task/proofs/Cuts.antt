@@ -1,5 +1,5 @@
 -- One word cut from the front of a text.
-use Rattle.std.proofs.Common.{◌≡◌, ℕ, ◌+◌, ◌<◌, Bool, true, false, cond, List, [], ◌∷◌, length, take, drop, filter, sym, refl, ap, ◌∙◌, inl, inr, one-add, arith}
+use Rattle.std.proofs.Common.{◌≡◌, ℕ, ◌+◌, ◌<◌, Bool, true, false, cond, List, [], ◌∷◌, length, drop, filter, sym, refl, ap, ◌∙◌, inl, inr, one-add, arith}
 use Rattle.std.proofs.lemmas.Bool.{cases_Bool}
 use Rattle.std.specs.List.{prefix_len, take_while}
 use Rattle.task.specs.Text.{blank, solid, past, pieces, some, words, after_word}
@@ -25,7 +25,7 @@ none_left [] none = refl
 none_left (b ∷ bs) none =
     elim (cases_Bool (blank b)) [
       | inl e ↦ simp e (none_left bs (simp e at none))
-      | inr e ↦ let h : b ∷ take_while solid bs ≡ [] = simp (e, one-add) at none in let z : ◌≡◌ {A = ℕ} 0 1 = cc in absurd (omega arith)
+      | inr e ↦ cc (simp (e, one-add) at none)
     ]
 
 kept : (w : List ℕ) (ps : List (List ℕ)) → 0 < length w → filter some (w ∷ ps) ≡ w ∷ filter some ps
@@ -40,11 +40,3 @@ pub a_word : (bs : List ℕ) → 0 < length (take_while solid (past blank bs)) �
 a_word bs more =
     let h = step (past blank bs) in
     sym (words_past bs) ∙ ap (filter some) h.1 ∙ kept (take_while solid (past blank bs)) h.0 more ∙ ap (λ ws. take_while solid (past blank bs) ∷ ws) h.2
-
--- The word and what is left, as a cut at the first blank behind the leading ones gives them.
-module _ (bs text : List ℕ) (n : ℕ) (from : text ≡ past blank bs) (to : n ≡ prefix_len solid text) where
-  pub word_is : (w : List ℕ) → w ≡ take n text → w ≡ take_while solid (past blank bs)
-  word_is w e = cc
-
-  pub rest_is : (rest : List ℕ) → rest ≡ drop n text → rest ≡ after_word bs
-  rest_is rest e = let h = drop_leading solid text in cc

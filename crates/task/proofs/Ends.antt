@@ -43,7 +43,7 @@ all_lead [] = tt
 all_lead (b ∷ bs) = elim (cases_Bool (blank b)) [ inl e ↦ simp (e, one-add) (refl, all_lead bs) | inr e ↦ simp (e, one-add) tt ]
 
 past_begins : (bs : List ℕ) (b : ℕ) (us : List ℕ) → past blank bs ≡ b ∷ us → Solid b
-past_begins [] b us e = let z : ◌≡◌ {A = ℕ} 0 1 = cc in absurd (omega arith)
+past_begins [] b us e = cc e
 past_begins (x ∷ bs) b us e =
     elim (cases_Bool (blank x)) [
       | inl yes' ↦ past_begins bs b us (simp yes' at e)

@@ -63,13 +63,13 @@ digit_reads : (c d : ℕ) → d < 16 → to_ascii_lowercase c ≡ digit_char d �
 digit_reads c d small e = grind (arith, nat_tests)
 
 both_some : {A B C : Type 0} (f : A → B → C) (x : Option A) (y : Option B) (z : C) → both f x y ≡ Some z → (u : A) × (v : B) × (x ≡ Some u) × (y ≡ Some v) × (z ≡ f u v)
-both_some f None y z e = let no : ◌≡◌ {A = ℕ} 0 1 = cc in absurd (omega arith)
-both_some f (Some u) None z e = let no : ◌≡◌ {A = ℕ} 0 1 = cc in absurd (omega arith)
+both_some f None y z e = cc e
+both_some f (Some u) None z e = cc e
 both_some f (Some u) (Some v) z e = (u, v, refl, refl, cc)
 
 pairs_write : (w bs : List ℕ) → hex_pairs w ≡ Some bs → map to_ascii_lowercase w ≡ hex_text bs
 pairs_write [] bs e = let h : bs ≡ [] = cc in rw h
-pairs_write (a ∷ []) bs e = let no : ◌≡◌ {A = ℕ} 0 1 = cc in absurd (omega arith)
+pairs_write (a ∷ []) bs e = cc e
 pairs_write (a ∷ b ∷ cs) bs e =
     let p = both_some _ (hex_byte a b) (hex_pairs cs) bs e in
     let q = both_some _ (hex_digit a) (hex_digit b) p.0 p.2 in
@@ -81,9 +81,9 @@ pairs_write (a ∷ b ∷ cs) bs e =
 
 pairs_read : (bs w : List ℕ) → AllByRecursion (λ b. b < 256) bs → map to_ascii_lowercase w ≡ hex_text bs → hex_pairs w ≡ Some bs
 pairs_read [] [] small e = refl
-pairs_read [] (a ∷ w) small e = let no : ◌≡◌ {A = ℕ} 0 1 = cc in absurd (omega arith)
-pairs_read (x ∷ bs) [] small e = let no : ◌≡◌ {A = ℕ} 0 1 = cc in absurd (omega arith)
-pairs_read (x ∷ bs) (a ∷ []) small e = let no : ◌≡◌ {A = ℕ} 0 1 = cc in absurd (omega arith)
+pairs_read [] (a ∷ w) small e = cc e
+pairs_read (x ∷ bs) [] small e = cc e
+pairs_read (x ∷ bs) (a ∷ []) small e = cc e
 pairs_read (x ∷ bs) (a ∷ b ∷ cs) small e =
     let high = digit_reads a (x / 16) (omega arith) (cc) in
     let low = digit_reads b (x % 16) (omega arith) (cc) in
@@ -92,7 +92,7 @@ pairs_read (x ∷ bs) (a ∷ b ∷ cs) small e =
 
 law_from : (w : List ℕ) (o : Option (List ℕ)) → hex_pairs w ≡ o → (w ≡ codes "-" → ⊥) → ReadsHex w o
 law_from w None e other = λ bytes small writes. elim writes [
-  | inl digits ↦ let f = pairs_read bytes w small digits in let no : ◌≡◌ {A = ℕ} 0 1 = cc in omega arith
+  | inl digits ↦ let f = pairs_read bytes w small digits in cc (e, f)
   | inr dash ↦ other dash.0
 ]
 law_from w (Some bytes) e other = inl (pairs_write w bytes e)

@@ -31,6 +31,7 @@ pub enum Name {
     Tally,
 }
 
+// The word of each directive. It is a table, since a `match` on the word leaves a hundred cases to prove.
 const NAMES: [(&[u8], Name); 16] = [
     (b"spins", Name::Spins),
     (b"partitions", Name::Partitions),
@@ -68,6 +69,7 @@ pub fn read_directive(heap: Global, name: Name, rest: Words) -> Result<Directive
 {
     match name {
         Name::Spins => {
+            // Named one by one: `thresholds @ ..` gets no proof.
             let [rows, columns, t0, t1, t2, t3, t4, t5, t6, t7, t8] = numbers::<11>(rest)?;
             let thresholds = [t0, t1, t2, t3, t4, t5, t6, t7, t8];
             Ok(Directive::Spins {
