@@ -40,13 +40,9 @@ first_line (said_refused c) d = refused_line c
 first_line said_misplaced d = None
 
 abbrev pub state_part : Said → (low high : List ℕ) → List ℕ
-state_part said_opened x y = []
 state_part said_met x y = printed (codes "state") x
 state_part said_apart x y = state_lines x y
-state_part said_closed x y = []
-state_part said_given_up x y = []
-state_part (said_refused c) x y = []
-state_part said_misplaced x y = []
+state_part _ x y = []
 
 abbrev pub answer_lines : Said → Option Draw → (low high : List ℕ) → Option (List ℕ)
 answer_lines said d x y = option_map (λ first. first ++ state_part said x y) (first_line said d)
@@ -62,60 +58,32 @@ end_lines m = end_with m.out m
 
 -- The requests that are directives of their own.
 abbrev pub asked : line.Request → Option Request
-asked (line.spins rows columns thresholds) = None
-asked (line.partitions rows columns largest) = None
-asked (line.sets rows columns) = None
-asked (line.seed n) = None
-asked (line.recording bytes) = None
-asked (line.recording_file path) = None
-asked (line.trace t) = None
-asked (line.stretch n) = None
 asked line.«open» = Some Open
 asked (line.try t) = Some (Try t)
 asked line.run = Some Run
 asked line.close = Some Close
 asked line.give_up = Some GiveUp
-asked (line.draws n) = None
-asked line.states = None
-asked line.tally = None
+asked _ = None
 
 -- In `draws` a draw is opened, run, and closed if it met; if it did not, or if the run was refused, it is given up. A
 -- refused open ends the directive.
 abbrev pub after_open : Said → Next
 after_open said_opened = Ask Run
-after_open said_met = Over
-after_open said_apart = Over
-after_open said_closed = Over
-after_open said_given_up = Over
-after_open (said_refused c) = Over
-after_open said_misplaced = Over
+after_open _ = Over
 
 abbrev pub after_run : Said → Next
-after_run said_opened = Over
 after_run said_met = Ask Close
 after_run said_apart = Ask GiveUp
-after_run said_closed = Over
-after_run said_given_up = Over
 after_run (said_refused c) = Ask GiveUp
-after_run said_misplaced = Over
+after_run _ = Over
 
 abbrev pub after_close : Said → Next
-after_close said_opened = Over
-after_close said_met = Over
-after_close said_apart = Over
 after_close said_closed = DrawDone
-after_close said_given_up = Over
-after_close (said_refused c) = Over
-after_close said_misplaced = Over
+after_close _ = Over
 
 abbrev pub after_give_up : Said → Next
-after_give_up said_opened = Over
-after_give_up said_met = Over
-after_give_up said_apart = Over
-after_give_up said_closed = Over
 after_give_up said_given_up = DrawDone
-after_give_up (said_refused c) = Over
-after_give_up said_misplaced = Over
+after_give_up _ = Over
 
 abbrev pub next_after : Request → Said → Next
 next_after Open said = after_open said

@@ -11,7 +11,7 @@ use Rattle.sources.specs.Sources.{Reading}
 use Rattle.sources.specs.SplitMix.{counter_reading}
 use Rattle.spins.specs.Faults.{RuleAnswers, spins_refusal}
 use Rattle.spins.specs.Spins.{rule_parts}
-use Rattle.task.specs.Lines.{Request, close, draws, give_up, «open», partitions, recording, recording_file, run, seed, sets, spins, states, stretch, tally, trace, try}
+use Rattle.task.specs.Lines.{Request, partitions, recording, recording_file, seed, sets, spins}
 use Rattle.session.specs.declared.rules.AnyRule.{AnyRule}
 use Rattle.session.specs.declared.rules.AnyRule.TheVariants as rule
 use Rattle.session.specs.declared.rules.RuleFault.{RuleFault}
@@ -54,19 +54,7 @@ GivesRule (spins rows columns thresholds) None = ⊥
 GivesRule (spins rows columns thresholds) (Some a) = SpinsAnswers rows columns thresholds a
 GivesRule (partitions rows columns most) o = o ≡ Some (partitions_answer rows columns most)
 GivesRule (sets rows columns) o = o ≡ Some (sets_answer rows columns)
-GivesRule (seed n) o = o ≡ None
-GivesRule (recording bytes) o = o ≡ None
-GivesRule (recording_file path) o = o ≡ None
-GivesRule (trace t) o = o ≡ None
-GivesRule (stretch n) o = o ≡ None
-GivesRule «open» o = o ≡ None
-GivesRule (try t) o = o ≡ None
-GivesRule run o = o ≡ None
-GivesRule close o = o ≡ None
-GivesRule give_up o = o ≡ None
-GivesRule (draws n) o = o ≡ None
-GivesRule states o = o ≡ None
-GivesRule tally o = o ≡ None
+GivesRule _ o = o ≡ None
 
 -- Where the words come from.
 pub data From : Type 0 where
@@ -84,16 +72,4 @@ abbrev pub source_given : Request → Option From
 source_given (seed n) = Some (words_of (counter_reading n))
 source_given (recording bytes) = Some (bytes_given bytes)
 source_given (recording_file path) = Some (file_at path)
-source_given (spins rows columns thresholds) = None
-source_given (partitions rows columns largest) = None
-source_given (sets rows columns) = None
-source_given (trace t) = None
-source_given (stretch n) = None
-source_given «open» = None
-source_given (try t) = None
-source_given run = None
-source_given close = None
-source_given give_up = None
-source_given (draws n) = None
-source_given states = None
-source_given tally = None
+source_given _ = None

@@ -15,51 +15,27 @@ stage_with (met_draw d) = DrawMet
 
 abbrev pub as_the_first : Stage → Bool
 as_the_first Start = true
-as_the_first Ruled = false
-as_the_first Sourced = false
-as_the_first Idle = false
-as_the_first DrawOpen = false
-as_the_first DrawMet = false
+as_the_first _ = false
 
 abbrev pub after_the_rule : Stage → Bool
-after_the_rule Start = false
 after_the_rule Ruled = true
-after_the_rule Sourced = false
-after_the_rule Idle = false
-after_the_rule DrawOpen = false
-after_the_rule DrawMet = false
+after_the_rule _ = false
 
 abbrev pub after_the_source : Stage → Bool
-after_the_source Start = false
-after_the_source Ruled = false
 after_the_source Sourced = true
-after_the_source Idle = false
-after_the_source DrawOpen = false
-after_the_source DrawMet = false
+after_the_source _ = false
 
 abbrev pub without_draw : Stage → Bool
-without_draw Start = false
-without_draw Ruled = false
-without_draw Sourced = false
 without_draw Idle = true
-without_draw DrawOpen = false
-without_draw DrawMet = false
+without_draw _ = false
 
 abbrev pub with_open_draw : Stage → Bool
-with_open_draw Start = false
-with_open_draw Ruled = false
-with_open_draw Sourced = false
-with_open_draw Idle = false
 with_open_draw DrawOpen = true
-with_open_draw DrawMet = false
+with_open_draw _ = false
 
 abbrev pub with_met_draw : Stage → Bool
-with_met_draw Start = false
-with_met_draw Ruled = false
-with_met_draw Sourced = false
-with_met_draw Idle = false
-with_met_draw DrawOpen = false
 with_met_draw DrawMet = true
+with_met_draw _ = false
 
 -- At any point after the stretch, after the source, after the rule.
 abbrev pub with_batch : Stage → Bool

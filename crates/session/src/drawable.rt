@@ -1,4 +1,5 @@
-// Kinds of which a task can draw samples. An even kind takes the call that also promises equal shares.
+// Kinds of which a task can draw samples. An even kind takes the call that also promises equal shares. One impl for all
+// even kinds would overlap that for spins, since nothing says that spins are not even.
 ghost use Rattle.batch.specs.Ends.{SameExtents};
 ghost use Rattle.batch.specs.Requests.{Carries, response};
 ghost use Rattle.batch.specs.Settings.{setting_of};

@@ -40,4 +40,4 @@ loop-cell-preserved g c =
     let own : agree (g.K.Kind.extent rule) (g.K.Kind.carried state) ≡ true = sym c.owns.ensures ∙ c.if-not-owns.false in
     let long = (g.met.K.Kind.sized rule cells (g.met.K.Kind.lawful rule state (sym (agree_same _ _ own)))).0 in
     let value = cell_given (g.K.Kind.extent rule) (g.K.Kind.carried state) cells c.loop-cell.cell c.in_ok-value.value c.in_ok-value.ensures in
-    more cells _ _ c.loop-cell.cell c.in_ok-value.value c.from.result (omega arith) c.in_ok-push.ensures.items c.from.ensures value c.loop-cell.invariant
+    more cells (vec_items c.loop-cell.values) (vec_items c.push.new.self) c.loop-cell.cell c.in_ok-value.value c.from.result (omega arith) c.in_ok-push.ensures.items c.from.ensures value c.loop-cell.invariant
