@@ -4,23 +4,24 @@ use Rattle.std.proofs.Common.{inl, inr, ⊎_elim, sym, ◌∙◌, arith}
 use Rattle.std.proofs.lemmas.List.{get_or-set_other, get_or-set_same, get_or-take, length-take-le, set_past}
 use Rattle.std.proofs.lemmas.Bool.{and_cases, and_parts, cases_eq, cases_lt, eq-eqb, eqb-false, eqb-true, or_cases, or_left, or_parts, or_right}
 use Rattle.std.specs.List.{range_with_len}
+use Rattle.lattice.specs.Kind.{Holds}
 use Rattle.lattice.specs.Grid.{Extent, cell_count, neighbours}
 use Rattle.lattice.proofs.Cells.{positive_within}
 use Rattle.independent_sets.specs.Independent.{free, independent, may_follow}
 use Rattle.independent_sets.specs.Beside.{neighbour_apart, neighbour_back}
-use Rattle.independent_sets.specs.Members.{Among, counted, fail_at, pass_at, pass_from}
+use Rattle.independent_sets.specs.Members.{counted, fail_at, pass_at, pass_from}
 
 module _ (e : Extent) (x : List ℕ) where
   abbrev pub Apart : Type 0
-  Apart = (i j : ℕ) → Among (neighbours e i) j → 0 < slice_index x i → slice_index x j ≡ 0
+  Apart = (i j : ℕ) → Holds (neighbours e i) j → 0 < slice_index x i → slice_index x j ≡ 0
 
-  pub free_at : (i j : ℕ) → free e x i ≡ true → Among (neighbours e i) j → slice_index x j ≡ 0
+  pub free_at : (i j : ℕ) → free e x i ≡ true → Holds (neighbours e i) j → slice_index x j ≡ 0
   free_at i j t h = eqb-true (slice_index x j) 0 (pass_at (λ k. nat_eq (slice_index x k) 0) (neighbours e i) j t h)
 
-  pub free_from : (i : ℕ) → ((j : ℕ) → Among (neighbours e i) j → slice_index x j ≡ 0) → free e x i ≡ true
+  pub free_from : (i : ℕ) → ((j : ℕ) → Holds (neighbours e i) j → slice_index x j ≡ 0) → free e x i ≡ true
   free_from i each = pass_from (λ k. nat_eq (slice_index x k) 0) (neighbours e i) (λ j h. eq-eqb (slice_index x j) 0 (each j h))
 
-  pub not_free : (i : ℕ) → free e x i ≡ false → (j : ℕ) × Among (neighbours e i) j × (0 < slice_index x j)
+  pub not_free : (i : ℕ) → free e x i ≡ false → (j : ℕ) × Holds (neighbours e i) j × (0 < slice_index x j)
   not_free i f =
       let p = fail_at (λ k. nat_eq (slice_index x k) 0) (neighbours e i) f in
       (p.0, p.1, omega (arith, eqb-false (slice_index x p.0) 0 p.2))
@@ -48,7 +49,7 @@ pub set_apart : (e : Extent) (x : List ℕ) (i v : ℕ) → length x ≡ cell_co
 set_apart e x i v long apart allowed =
     ⊎_elim
     (λ (past : length x ≤ i). rw (set_past x i v past) apart)
-    (λ (within : i < length x) (k j : ℕ) (h : Among (neighbours e k) j) (occupied : 0 < slice_index (slice_set x i v) k).
+    (λ (within : i < length x) (k j : ℕ) (h : Holds (neighbours e k) j) (occupied : 0 < slice_index (slice_set x i v) k).
     ⊎_elim
     (λ (here : k ≡ i).
     let other : j ≡ i → ⊥ = λ same. neighbour_apart e k j h (here ∙ sym same) in
@@ -58,7 +59,7 @@ set_apart e x i v long apart allowed =
     let kept : 0 < slice_index_or x k 0 = rw (get_or-set_other x i k v 0 elsewhere) at occupied in
     ⊎_elim
     (λ (there : j ≡ i).
-    let back : Among (neighbours e i) k = rw there at (neighbour_back e k j h (omega (arith, positive_within x k kept))) in
+    let back : Holds (neighbours e i) k = rw there at (neighbour_back e k j h (omega (arith, positive_within x k kept))) in
     let none : v ≡ 0 = ⊎_elim (λ (z : v < 1). omega arith) (λ (some : 1 ≤ v). absurd (omega (arith, free_at e x i k (allowed (omega arith)) back))) (cases_lt v 1) in
     rw (there, get_or-set_same x i v 0 within) none)
     (λ (other : j ≡ i → ⊥). get_or-set_other x i j v 0 other ∙ apart k j h kept)
@@ -81,13 +82,13 @@ module _ (e : Extent) (x : List ℕ) (n : ℕ) (few : n ≤ cell_count e) (long 
   follow_upto j h = (follows_parts e (take j x) (slice_index x j) (follow j h)).0
 
   -- a neighbour before an occupied cell is empty
-  before_empty : (i j : ℕ) → i < n → j < i → Among (neighbours e i) j → 0 < slice_index x i → slice_index x j ≡ 0
+  before_empty : (i j : ℕ) → i < n → j < i → Holds (neighbours e i) j → 0 < slice_index x i → slice_index x j ≡ 0
   before_empty i j h before beside occupied =
       let allowed = (follows_parts e (take i x) (slice_index x i) (follow i h)).1 occupied in
       let here : free e (take i x) i ≡ true = rw (length-take-le i x (omega arith)) at allowed in
       sym (get_or-take i x j 0 before) ∙ free_at e (take i x) i j here beside
 
-  pub follow_apart : (i j : ℕ) → i < n → j < n → Among (neighbours e i) j → 0 < slice_index x i → slice_index x j ≡ 0
+  pub follow_apart : (i j : ℕ) → i < n → j < n → Holds (neighbours e i) j → 0 < slice_index x i → slice_index x j ≡ 0
   follow_apart i j hi hj beside occupied =
       ⊎_elim
       (λ (before : j < i). before_empty i j hi before beside occupied)
@@ -100,7 +101,7 @@ module _ (e : Extent) (x : List ℕ) (n : ℕ) (few : n ≤ cell_count e) (long 
       (cases_lt j i)
 
 -- a cell that may not follow is no value, or has an occupied neighbour before it
-pub stops_parts : (e : Extent) (x : List ℕ) (i : ℕ) → i ≤ length x → may_follow e (take i x) (slice_index x i) ≡ false → (1 < slice_index x i) ⊎ ((0 < slice_index x i) × ((j : ℕ) × (j < i) × Among (neighbours e i) j × (0 < slice_index x j)))
+pub stops_parts : (e : Extent) (x : List ℕ) (i : ℕ) → i ≤ length x → may_follow e (take i x) (slice_index x i) ≡ false → (1 < slice_index x i) ⊎ ((0 < slice_index x i) × ((j : ℕ) × (j < i) × Holds (neighbours e i) j × (0 < slice_index x j)))
 stops_parts e x i long f =
     let v = slice_index_or x i 0 in
     let size = length-take-le i x long in

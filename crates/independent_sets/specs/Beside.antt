@@ -5,10 +5,11 @@ use Rattle.std.proofs.lemmas.Nat.{div_below, div-add-mod', div-mul-add, mod_belo
 use Rattle.std.proofs.lemmas.Int.{ints}
 use Rattle.std.proofs.lemmas.Bool.{cases_lt, eq-eqb, ne_eqb, cases_eq, true≢false, false≢true}
 use Rattle.std.specs.Option.{option_to_list}
+use Rattle.lattice.specs.Kind.{Holds}
+use Rattle.lattice.proofs.Listed.{holds_cases, holds_left, holds_right}
 use Rattle.lattice.specs.Grid.{Extent, beside, cell_at, cell_count, neighbours}
 use Rattle.lattice.proofs.Neighbours.{cell_from, cell_parts}
 use Rattle.independent_sets.specs.Independent.{white}
-use Rattle.independent_sets.specs.Members.{Among, among_cases, among_left, among_right}
 
 abbrev row : Extent → ℕ → ℕ
 row e i = i / e.columns
@@ -65,12 +66,12 @@ one_up a b h = omega (arith, ints)
 unmoved : (a b : ℕ) → pos a +ℤ pos 0 ≡ pos b → a ≡ b
 unmoved a b h = omega (arith, ints)
 
-some_among : (o : Option ℕ) (j : ℕ) → Among (option_to_list o) j → o ≡ Some j
+some_among : (o : Option ℕ) (j : ℕ) → Holds (option_to_list o) j → o ≡ Some j
 some_among None j h = absurd h
 some_among (Some k) j (inl e) = ap Some (sym e)
 some_among (Some k) j (inr h) = absurd h
 
-among_some : (o : Option ℕ) (j : ℕ) → o ≡ Some j → Among (option_to_list o) j
+among_some : (o : Option ℕ) (j : ℕ) → o ≡ Some j → Holds (option_to_list o) j
 among_some o j h = rw h (inl refl)
 
 module _ (e : Extent) (i j : ℕ) where
@@ -86,41 +87,41 @@ module _ (e : Extent) (i j : ℕ) where
   abbrev down : List ℕ
   down = to (pos 1) (pos 0) ++ sideways
 
-  next_at : (s t : ℤ) → ((pos (row e i) +ℤ s ≡ pos (row e j)) → (pos (column e i) +ℤ t ≡ pos (column e j)) → Next e i j) → Among (to s t) j → (j < cell_count e) × Next e i j
+  next_at : (s t : ℤ) → ((pos (row e i) +ℤ s ≡ pos (row e j)) → (pos (column e i) +ℤ t ≡ pos (column e j)) → Next e i j) → Holds (to s t) j → (j < cell_count e) × Next e i j
   next_at s t next h = let p = shifted e i j s t (some_among (beside e i (s, t)) j h) in (p.2, next p.0 p.1)
 
-  next_from : Among (neighbours e i) j → (j < cell_count e) × Next e i j
+  next_from : Holds (neighbours e i) j → (j < cell_count e) × Next e i j
   next_from h =
       ⊎_elim (next_at (negsuc 0) (pos 0) (λ r c. inl (inr (one_down (row e i) (row e j) r), unmoved (column e i) (column e j) c)))
       (λ k.
       ⊎_elim (next_at (pos 1) (pos 0) (λ r c. inl (inl (one_up (row e i) (row e j) r), unmoved (column e i) (column e j) c)))
       (λ l.
       ⊎_elim (next_at (pos 0) (negsuc 0) (λ r c. inr (unmoved (row e i) (row e j) r, inr (one_down (column e i) (column e j) c))))
-      (λ m. ⊎_elim (next_at (pos 0) (pos 1) (λ r c. inr (unmoved (row e i) (row e j) r, inl (one_up (column e i) (column e j) c)))) absurd (among_cases (to (pos 0) (pos 1)) [] j m))
-      (among_cases (to (pos 0) (negsuc 0)) right j l))
-      (among_cases (to (pos 1) (pos 0)) sideways j k))
-      (among_cases (to (negsuc 0) (pos 0)) down j h)
+      (λ m. ⊎_elim (next_at (pos 0) (pos 1) (λ r c. inr (unmoved (row e i) (row e j) r, inl (one_up (column e i) (column e j) c)))) absurd (holds_cases (to (pos 0) (pos 1)) [] j m))
+      (holds_cases (to (pos 0) (negsuc 0)) right j l))
+      (holds_cases (to (pos 1) (pos 0)) sideways j k))
+      (holds_cases (to (negsuc 0) (pos 0)) down j h)
 
-  in_above : Among (to (negsuc 0) (pos 0)) j → Among (neighbours e i) j
-  in_above = among_left (to (negsuc 0) (pos 0)) down j
+  in_above : Holds (to (negsuc 0) (pos 0)) j → Holds (neighbours e i) j
+  in_above = holds_left (to (negsuc 0) (pos 0)) down j
 
-  in_below : Among (to (pos 1) (pos 0)) j → Among (neighbours e i) j
-  in_below h = among_right (to (negsuc 0) (pos 0)) down j (among_left (to (pos 1) (pos 0)) sideways j h)
+  in_below : Holds (to (pos 1) (pos 0)) j → Holds (neighbours e i) j
+  in_below h = holds_right (to (negsuc 0) (pos 0)) down j (holds_left (to (pos 1) (pos 0)) sideways j h)
 
-  in_left : Among (to (pos 0) (negsuc 0)) j → Among (neighbours e i) j
-  in_left h = among_right (to (negsuc 0) (pos 0)) down j (among_right (to (pos 1) (pos 0)) sideways j (among_left (to (pos 0) (negsuc 0)) right j h))
+  in_left : Holds (to (pos 0) (negsuc 0)) j → Holds (neighbours e i) j
+  in_left h = holds_right (to (negsuc 0) (pos 0)) down j (holds_right (to (pos 1) (pos 0)) sideways j (holds_left (to (pos 0) (negsuc 0)) right j h))
 
-  in_right : Among (to (pos 0) (pos 1)) j → Among (neighbours e i) j
-  in_right h = among_right (to (negsuc 0) (pos 0)) down j (among_right (to (pos 1) (pos 0)) sideways j (among_right (to (pos 0) (negsuc 0)) right j (among_left (to (pos 0) (pos 1)) [] j h)))
+  in_right : Holds (to (pos 0) (pos 1)) j → Holds (neighbours e i) j
+  in_right h = holds_right (to (negsuc 0) (pos 0)) down j (holds_right (to (pos 1) (pos 0)) sideways j (holds_right (to (pos 0) (negsuc 0)) right j (holds_left (to (pos 0) (pos 1)) [] j h)))
 
   -- a cell of the grid that has the shifted coordinates is the cell at that shift
-  to_from : (s t : ℤ) → j < cell_count e → pos (row e i) +ℤ s ≡ pos (row e j) → pos (column e i) +ℤ t ≡ pos (column e j) → Among (to s t) j
+  to_from : (s t : ℤ) → j < cell_count e → pos (row e i) +ℤ s ≡ pos (row e j) → pos (column e i) +ℤ t ≡ pos (column e j) → Holds (to s t) j
   to_from s t within r c =
       let some : 0 < e.columns = columns_from e j within in
       among_some (beside e i (s, t)) j
       (ap₂ (cell_at e) r c ∙ cell_from e (row e j) (column e j) (div_below j e.columns e.rows some within) (mod_below j e.columns some) ∙ ap Some (div-add-mod' j e.columns))
 
-  from_next : j < cell_count e → Next e i j → Among (neighbours e i) j
+  from_next : j < cell_count e → Next e i j → Holds (neighbours e i) j
   from_next within (inl (inr r, c)) = in_above (to_from (negsuc 0) (pos 0) within (omega (arith, ints)) (omega (arith, ints)))
   from_next within (inl (inl r, c)) = in_below (to_from (pos 1) (pos 0) within (omega (arith, ints)) (omega (arith, ints)))
   from_next within (inr (r, inr c)) = in_left (to_from (pos 0) (negsuc 0) within (omega (arith, ints)) (omega (arith, ints)))
@@ -148,11 +149,11 @@ sums_apart e i j (inl (inr r, c)) = inr (omega arith)
 sums_apart e i j (inr (r, inl c)) = inl (omega arith)
 sums_apart e i j (inr (r, inr c)) = inr (omega arith)
 
-module _ (e : Extent) (i j : ℕ) (next : Among (neighbours e i) j) where
+module _ (e : Extent) (i j : ℕ) (next : Holds (neighbours e i) j) where
   pub neighbour_within : j < cell_count e
   neighbour_within = (next_from e i j next).0
 
-  pub neighbour_back : i < cell_count e → Among (neighbours e j) i
+  pub neighbour_back : i < cell_count e → Holds (neighbours e j) i
   neighbour_back within = from_next e j i within (next_back e i j (next_from e i j next).1)
 
   pub neighbour_other : white e j ≡ not (white e i)

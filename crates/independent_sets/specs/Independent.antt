@@ -1,6 +1,7 @@
 -- What an independent set of a grid means: cells 0 (empty) and 1 (occupied), and the step by a word.
-use Rattle.std.specs.Prelude.{ℕ, ◌+◌, ◌/◌, ◌%◌, ◌^◌, ◌≤◌, Bool, cond, ◌&&◌, ◌||◌, List, map, length, MatchBool, filter, ◌==◌, nat_eq, slice_index, slice_set}
+use Rattle.std.specs.Prelude.{ℕ, ◌+◌, ◌/◌, ◌%◌, ◌≤◌, Bool, cond, ◌&&◌, ◌||◌, List, map, length, MatchBool, filter, ◌==◌, nat_eq, slice_index, slice_set}
 use Rattle.std.specs.List.{range_with_len, list_all}
+use Rattle.lattice.specs.Words.{middle_level}
 use Rattle.lattice.specs.Counts.{two_way}
 use Rattle.lattice.specs.Grid.{Extent, cell_count, neighbours}
 use Rattle.lattice.specs.Kind.{Meaning}
@@ -34,17 +35,13 @@ fill e i x = slice_set x i (cond (free e x i) 1 0)
 abbrev pub clear : ℕ → List ℕ → List ℕ
 clear i x = slice_set x i 0
 
--- A level below this one fills the site, any other clears it.
-abbrev pub threshold : ℕ
-threshold = 2 ^ 31
-
 abbrev pub independent_sets : Extent → Meaning
 independent_sets e = record {
   states = filter (independent e) (value_lists 1 (cell_count e));
   below = checkerwise e;
   bottom = checkerboard e 0 1;
   top = checkerboard e 1 0;
-  step = two_way (fill e) clear threshold (cell_count e);
+  step = two_way (fill e) clear middle_level (cell_count e);
 }
 
 -- The next cell after these may hold the value: it is 0, or it is 1 and its neighbours among them are empty.

@@ -8,11 +8,11 @@ use Rattle.lattice.specs.Counts.{Exchanges}
 use Rattle.lattice.specs.Grid.{Extent, cell_count}
 use Rattle.lattice.specs.Kind.{Bounded, Closed, Distinct, FirstBad, Lawful, Monotone, Ordered, Sized}
 use Rattle.lattice.specs.Lists.{value_lists}
-use Rattle.lattice.specs.Words.{level, site}
+use Rattle.lattice.specs.Words.{level, middle_level, site}
 use Rattle.lattice.proofs.Cells.{all_upto, append_upto, begins_same, filled_up, positive_within, replicate_upto, set_upto, take_upto, upto_all}
 use Rattle.lattice.proofs.Halves.{Undo, exchanges}
 use Rattle.lattice.proofs.Listed.{kept_holds, kept_once, kept_parts, listed, listed_once, listed_parts}
-use Rattle.independent_sets.specs.Independent.{checkerboard, clear, fill, free, independent, independent_sets, may_follow, threshold, white}
+use Rattle.independent_sets.specs.Independent.{checkerboard, clear, fill, free, independent, independent_sets, may_follow, white}
 use Rattle.independent_sets.specs.Apart.{Apart, apart_from, follow_apart, follow_upto, free_at, free_from, from_apart, set_apart, stops_parts}
 use Rattle.independent_sets.specs.Beside.{neighbour_apart, neighbour_other}
 use Rattle.independent_sets.specs.Checkerboards.{Turned, checkerboard_upto, checkerwise_set, coloured, coloured_apart, coloured_bits, length_checkerboard, turned_along, turned_same, turned_sets, upto_checkerboard, when_from}
@@ -93,7 +93,7 @@ module _ (e : Extent) where
   pub closed : Closed (independent_sets e)
   closed w hw x h =
       let i = site (cell_count e) w in
-      cond_both (nat_lt (level w) threshold) (fill e i x) (clear i x) (Lawful (independent_sets e))
+      cond_both (nat_lt (level w) middle_level) (fill e i x) (clear i x) (Lawful (independent_sets e))
       (λ t. set_lawful x i _ h (bit_upto (free e x i)) (bit_set (free e x i)))
       (λ t. set_lawful x i 0 h (omega arith) (λ some. absurd (omega arith)))
 
@@ -102,13 +102,13 @@ module _ (e : Extent) where
       let i = site (cell_count e) w in
       let long = (lawful_parts x h).0 ∙ sym (lawful_parts y k).0 in
       ⊎_elim
-      (λ (t : ltb (level w) threshold ≡ true).
+      (λ (t : ltb (level w) middle_level ≡ true).
       rw t
       (checkerwise_set e x y i _ _ long
       (when_from (white e i) _ _ (λ light. bit_rises _ _ (freer e x y below i light)) (λ dark. bit_rises _ _ (less_free e x y below i dark)))
       below))
-      (λ (f : ltb (level w) threshold ≡ false). rw f (checkerwise_set e x y i 0 0 long (when_from (white e i) _ _ (λ light. le_refl _) (λ dark. le_refl _)) below))
-      (cases_Bool (nat_lt (level w) threshold))
+      (λ (f : ltb (level w) middle_level ≡ false). rw f (checkerwise_set e x y i 0 0 long (when_from (white e i) _ _ (λ light. le_refl _) (λ dark. le_refl _)) below))
+      (cases_Bool (nat_lt (level w) middle_level))
 
   pub distinct : Distinct (independent_sets e).states
   distinct = kept_once (independent e) (value_lists 1 (cell_count e)) (listed_once 1 (cell_count e))

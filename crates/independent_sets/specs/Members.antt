@@ -1,44 +1,26 @@
 -- The members of a list of cells, and what a test of them all tells of each.
-use Rattle.std.specs.Prelude.{◌≡◌, ℕ, zero, suc, ◌+◌, ◌<◌, ◌≤◌, Bool, true, false, ◌⊎◌, List, [], ◌∷◌, ◌++◌, refl}
+use Rattle.std.specs.Prelude.{◌≡◌, ℕ, zero, suc, ◌+◌, ◌<◌, ◌≤◌, Bool, true, false, List, [], ◌∷◌, refl}
 use Rattle.std.proofs.Common.{inl, inr, ⊎_elim, sym, ap, ◌∙◌, arith}
 use Rattle.std.proofs.lemmas.Bool.{and_cases, and_from, and_parts, cases_eq, false≢true}
 use Rattle.std.specs.List.{range_with_len, list_all}
+use Rattle.lattice.specs.Kind.{Holds}
 
--- the list holds j
-abbrev pub Among : List ℕ → ℕ → Type 0
-Among [] j = ⊥
-Among (i ∷ cells) j = (j ≡ i) ⊎ Among cells j
-
-pub among_left : (xs ys : List ℕ) (j : ℕ) → Among xs j → Among (xs ++ ys) j
-among_left [] ys j h = absurd h
-among_left (x ∷ xs) ys j (inl e) = inl e
-among_left (x ∷ xs) ys j (inr h) = inr (among_left xs ys j h)
-
-pub among_right : (xs ys : List ℕ) (j : ℕ) → Among ys j → Among (xs ++ ys) j
-among_right [] ys j h = h
-among_right (x ∷ xs) ys j h = inr (among_right xs ys j h)
-
-pub among_cases : (xs ys : List ℕ) (j : ℕ) → Among (xs ++ ys) j → Among xs j ⊎ Among ys j
-among_cases [] ys j h = inr h
-among_cases (x ∷ xs) ys j (inl e) = inl (inl e)
-among_cases (x ∷ xs) ys j (inr h) = ⊎_elim (λ k. inl (inr k)) inr (among_cases xs ys j h)
-
-pub counted : (a n j : ℕ) → a ≤ j → j < a + n → Among (range_with_len a n) j
+pub counted : (a n j : ℕ) → a ≤ j → j < a + n → Holds (range_with_len a n) j
 counted a zero j low high = absurd (omega arith)
 counted a (suc n) j low high =
     ⊎_elim inl (λ (d : j ≡ a → ⊥). inr (counted (a + 1) n j (omega arith) (omega arith))) (cases_eq j a)
 
 module _ (test : ℕ → Bool) where
-  pub pass_at : (cells : List ℕ) (j : ℕ) → list_all test cells ≡ true → Among cells j → test j ≡ true
+  pub pass_at : (cells : List ℕ) (j : ℕ) → list_all test cells ≡ true → Holds cells j → test j ≡ true
   pass_at [] j t h = absurd h
   pass_at (i ∷ cells) j t (inl e) = ap test e ∙ (and_parts (test i) (list_all test cells) t).0
   pass_at (i ∷ cells) j t (inr h) = pass_at cells j (and_parts (test i) (list_all test cells) t).1 h
 
-  pub pass_from : (cells : List ℕ) → ((j : ℕ) → Among cells j → test j ≡ true) → list_all test cells ≡ true
+  pub pass_from : (cells : List ℕ) → ((j : ℕ) → Holds cells j → test j ≡ true) → list_all test cells ≡ true
   pass_from [] each = refl
   pass_from (i ∷ cells) each = and_from (test i) (list_all test cells) (each i (inl refl)) (pass_from cells (λ j h. each j (inr h)))
 
-  pub fail_at : (cells : List ℕ) → list_all test cells ≡ false → (j : ℕ) × Among cells j × (test j ≡ false)
+  pub fail_at : (cells : List ℕ) → list_all test cells ≡ false → (j : ℕ) × Holds cells j × (test j ≡ false)
   fail_at [] f = absurd (false≢true (sym f))
   fail_at (i ∷ cells) f =
       ⊎_elim

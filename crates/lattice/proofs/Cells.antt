@@ -1,10 +1,11 @@
 -- Lists of cells whose values keep below a bound, and the order cell by cell.
-use Rattle.std.proofs.Common.{◌≡◌, ℕ, zero, suc, ◌-◌, ◌<◌, ◌≤◌, true, false, ltb, Some, List, [], ◌∷◌, ◌++◌, length, get_or, take, set, replicate, sym, ap, ◌∙◌, ⊎_elim, arith}
+use Rattle.std.proofs.Common.{◌≡◌, ℕ, zero, suc, ◌-◌, ◌<◌, ◌≤◌, true, false, ltb, Some, List, [], ◌∷◌, ◌++◌, length, get_or, take, set, replicate, sym, ap, ◌∙◌, ⊎_elim, le_refl, le_trans, arith}
 use Rattle.std.specs.List.{AllByRecursion, position, position_or_len}
 use Rattle.std.proofs.lemmas.Bool.{cases_Bool, cases_lt, cond-true, ltb-false}
 use Rattle.std.proofs.lemmas.List.Sums.{fails_before_first}
 use Rattle.std.proofs.lemmas.List.{ext_get_or, get_or-take, get_or_past, length-append, length-replicate, length-take-le}
 use Rattle.std.proofs.ByRecursion.{All-from_get_or}
+use Rattle.lattice.specs.Kind.{Holds, Ordered}
 use Rattle.lattice.specs.Orders.{cellwise}
 
 -- a value above 0 is one of the list
@@ -86,3 +87,11 @@ below_replicate (a ∷ x) b each (suc i) = below_replicate x b (λ k. each (suc 
 
 pub above_zeros : (n : ℕ) (x : List ℕ) → cellwise (replicate n 0) x
 above_zeros n x i = let z = replicate_upto n 0 0 i (omega arith) in omega arith
+
+-- lists of one length are ordered by their cells
+pub cellwise_ordered : (states : List (List ℕ)) (bottom top : List ℕ) (step : ℕ → List ℕ → List ℕ) (n : ℕ) → ((x : List ℕ) → Holds states x → length x ≡ n) → Ordered (record { states = states; below = cellwise; bottom = bottom; top = top; step = step })
+cellwise_ordered states bottom top step n long = record {
+  reflexive = λ x h i. le_refl _;
+  antisymmetric = λ x y h k low high. cellwise_antisymmetric x y (long x h ∙ sym (long y k)) low high;
+  transitive = λ x y z h k l low high i. le_trans (low i) (high i);
+}

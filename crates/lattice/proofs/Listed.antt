@@ -5,16 +5,16 @@ use Rattle.std.specs.List.{range_with_len, flat_map, AllByRecursion}
 use Rattle.lattice.specs.Kind.{Holds, Distinct}
 use Rattle.lattice.specs.Lists.{value_lists}
 
-holds_left : (xs ys : List (List ℕ)) (x : List ℕ) → Holds xs x → Holds (xs ++ ys) x
+pub holds_left : {X : Type 0} (xs ys : List X) (x : X) → Holds xs x → Holds (xs ++ ys) x
 holds_left [] ys x h = absurd h
 holds_left (y ∷ xs) ys x (inl e) = inl e
 holds_left (y ∷ xs) ys x (inr h) = inr (holds_left xs ys x h)
 
-holds_right : (xs ys : List (List ℕ)) (x : List ℕ) → Holds ys x → Holds (xs ++ ys) x
+pub holds_right : {X : Type 0} (xs ys : List X) (x : X) → Holds ys x → Holds (xs ++ ys) x
 holds_right [] ys x h = h
 holds_right (y ∷ xs) ys x h = inr (holds_right xs ys x h)
 
-holds_cases : (xs ys : List (List ℕ)) (x : List ℕ) → Holds (xs ++ ys) x → Holds xs x ⊎ Holds ys x
+pub holds_cases : {X : Type 0} (xs ys : List X) (x : X) → Holds (xs ++ ys) x → Holds xs x ⊎ Holds ys x
 holds_cases [] ys x h = inr h
 holds_cases (y ∷ xs) ys x (inl e) = inl (inl e)
 holds_cases (y ∷ xs) ys x (inr h) = ⊎_elim (λ a. inl (inr a)) inr (holds_cases xs ys x h)

@@ -13,7 +13,7 @@ pub record Meaning : Type 1 where
   pub step : ℕ → List ℕ → List ℕ
 
 -- The list holds x.
-abbrev pub Holds : List (List ℕ) → List ℕ → Type 0
+abbrev pub Holds : {X : Type 0} → List X → X → Type 0
 Holds [] x = ⊥
 Holds (y ∷ ys) x = (x ≡ y) ⊎ Holds ys x
 

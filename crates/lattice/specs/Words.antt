@@ -8,3 +8,7 @@ site n w = w / 2 ^ 32 * n / 2 ^ 32
 -- The level: the low 32 bits.
 abbrev pub level : ℕ → ℕ
 level w = w % 2 ^ 32
+
+-- Half of all levels lie below this one.
+abbrev pub middle_level : ℕ
+middle_level = 2 ^ 31

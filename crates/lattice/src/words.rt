@@ -5,6 +5,9 @@ ghost use Rattle.lattice.specs.Words.{site, level};
 // How many values half a word has.
 const HALF: u64 = 1 << 32;
 
+// Half of all levels lie below this one.
+pub const MIDDLE_LEVEL: u32 = 1 << 31;
+
 // The cell that the word chooses among `cells`, and its level.
 pub fn split(word: u64, cells: u32) -> (u32, u32)
     ensures pair { result ≡ (site cells word, level word) }

@@ -1,9 +1,10 @@
 -- What a plane partition means: heights that never rise along a row or down a column, and the step by a word.
-use Rattle.std.specs.Prelude.{ℕ, ◌+◌, ◌-◌, ◌^◌, ◌≤◌, min, max, Bool, cond, List, replicate, pos, Some, None, filter, Option, nat_le, nat_lt, slice_index, slice_index_or, slice_set}
+use Rattle.std.specs.Prelude.{ℕ, ◌+◌, ◌-◌, ◌≤◌, min, max, Bool, cond, List, replicate, pos, Some, None, filter, Option, nat_le, nat_lt, slice_index, slice_index_or, slice_set}
 use Rattle.std.specs.List.{range_with_len, list_all}
 use Rattle.lattice.specs.Counts.{two_way}
 use Rattle.lattice.specs.Grid.{Extent, beside, cell_count, directions}
 use Rattle.lattice.specs.Kind.{Meaning}
+use Rattle.lattice.specs.Words.{middle_level}
 use Rattle.lattice.specs.Lists.{value_lists}
 use Rattle.lattice.specs.Orders.{cellwise}
 
@@ -49,15 +50,11 @@ raised e i x = cond (nat_lt (slice_index x i) (highest e x i)) (slice_set x i (s
 abbrev pub lowered : Extent → ℕ → List ℕ → List ℕ
 lowered e i x = cond (nat_lt (lowest e x i) (slice_index x i)) (slice_set x i (slice_index x i - 1)) x
 
--- A level below this one raises the site, any other lowers it.
-abbrev pub threshold : ℕ
-threshold = 2 ^ 31
-
 abbrev pub partitions_meaning : Extent → Meaning
 partitions_meaning e = record {
   states = filter (falls e) (value_lists e.largest (cell_count e));
   below = cellwise;
   bottom = replicate (cell_count e) 0;
   top = replicate (cell_count e) e.largest;
-  step = two_way (raised e) (lowered e) threshold (cell_count e);
+  step = two_way (raised e) (lowered e) middle_level (cell_count e);
 }

@@ -1,6 +1,6 @@
 -- Plane partitions keep the laws of a kind, whatever their sides and cap.
 use Rattle.std.specs.Prelude.{◌≡◌, ℕ, ◌+◌, ◌-◌, ◌^◌, ◌<◌, ◌≤◌, true, false, cond, ltb, List, ◌++◌, length, take, replicate, Decides, ◌≢◌, nat_le, nat_lt, slice_index, slice_index_or, slice_set, refl}
-use Rattle.std.proofs.Common.{⊎_elim, sym, ap, ◌∙◌, le_refl, le_trans, zero-add, arith}
+use Rattle.std.proofs.Common.{⊎_elim, sym, ap, ◌∙◌, le_refl, zero-add, arith}
 use Rattle.std.specs.List.{range_with_len, list_all, AllByRecursion}
 use Rattle.std.proofs.lemmas.List.FromFn.{get_or-range_with_len, length-range_with_len}
 use Rattle.std.proofs.ByRecursion.{All-from_get_or, All-get_or, All-weaker, Decides-by_and}
@@ -10,11 +10,11 @@ use Rattle.lattice.specs.Counts.{Exchanges}
 use Rattle.lattice.specs.Grid.{Extent, cell_count}
 use Rattle.lattice.specs.Kind.{Lawful, FirstBad, Ordered, Bounded, Closed, Monotone, Distinct, Sized}
 use Rattle.lattice.specs.Lists.{value_lists}
-use Rattle.lattice.specs.Words.{site, level}
-use Rattle.lattice.proofs.Cells.{all_upto, above_zeros, begins_same, below_replicate, cellwise_antisymmetric, cellwise_set, filled_up, replicate_upto}
+use Rattle.lattice.specs.Words.{level, middle_level, site}
+use Rattle.lattice.proofs.Cells.{all_upto, above_zeros, begins_same, below_replicate, cellwise_ordered, cellwise_set, filled_up, replicate_upto}
 use Rattle.lattice.proofs.Halves.{Undo, exchanges as two_way_exchanges}
 use Rattle.lattice.proofs.Listed.{kept_holds, kept_once, kept_parts, listed, listed_once, listed_parts}
-use Rattle.partitions.specs.Heights.{Falling, falls, highest, lowest, lowered, partitions_meaning, raised, threshold}
+use Rattle.partitions.specs.Heights.{Falling, falls, highest, lowest, lowered, partitions_meaning, raised}
 use Rattle.partitions.specs.HeightsLemmas.{highest_rises, highest_same, highest_set, level_falling, lowered_falling, lowers_order, lowest_rises, lowest_set, raised_falling, raises_order, set_back}
 
 module _ (e : Extent) where
@@ -49,11 +49,7 @@ module _ (e : Extent) where
       kept_holds (falls e) (value_lists e.largest (cell_count e)) x (rw (sym long) listed_there) ((test_decides x).1 (All-from_get_or (Fits x) (range_with_len 0 (cell_count e)) 0 (λ k h. falling _)))
 
   pub ordered : Ordered (partitions_meaning e)
-  ordered = record {
-    reflexive = λ x h i. le_refl _;
-    antisymmetric = λ x y h k low high. cellwise_antisymmetric x y ((lawful_parts x h).0 ∙ sym (lawful_parts y k).0) low high;
-    transitive = λ x y z h k l low high i. le_trans (low i) (high i);
-  }
+  ordered = cellwise_ordered _ _ _ _ (cell_count e) (λ x h. (lawful_parts x h).0)
 
   pub bounded : Bounded (partitions_meaning e)
   bounded = record {
@@ -80,7 +76,7 @@ module _ (e : Extent) where
   pub closed : Closed (partitions_meaning e)
   closed w hw x h =
       let i = site (cell_count e) w in
-      cond_both (nat_lt (level w) threshold) (raised e i x) (lowered e i x) (Lawful (partitions_meaning e)) (λ t. raised_lawful i x h) (λ f. lowered_lawful i x h)
+      cond_both (nat_lt (level w) middle_level) (raised e i x) (lowered e i x) (Lawful (partitions_meaning e)) (λ t. raised_lawful i x h) (λ f. lowered_lawful i x h)
 
   -- a step as the writing of one height
   raised_is : (i : ℕ) (x : List ℕ) → raised e i x ≡ slice_set x i (cond (nat_lt (slice_index x i) (highest e x i)) (slice_index x i + 1) (slice_index x i))
@@ -102,11 +98,11 @@ module _ (e : Extent) where
       let i = site (cell_count e) w in
       let long = (lawful_parts x h).0 ∙ sym (lawful_parts y k).0 in
       ⊎_elim
-      (λ (t : ltb (level w) threshold ≡ true).
+      (λ (t : ltb (level w) middle_level ≡ true).
       rw (t, raised_is i x, raised_is i y) (cellwise_set x y i _ _ long (raises_order _ _ _ _ (below i) (highest_rises e x y i below)) below))
-      (λ (f : ltb (level w) threshold ≡ false).
+      (λ (f : ltb (level w) middle_level ≡ false).
       rw (f, lowered_is i x, lowered_is i y) (cellwise_set x y i _ _ long (lowers_order _ _ _ _ (below i) (lowest_rises e x y i below)) below))
-      (cases_Bool (nat_lt (level w) threshold))
+      (cases_Bool (nat_lt (level w) middle_level))
 
   pub distinct : Distinct (partitions_meaning e).states
   distinct = kept_once (falls e) (value_lists e.largest (cell_count e)) (listed_once e.largest (cell_count e))

@@ -1,6 +1,6 @@
 -- Spin grids keep the laws of a kind, whatever their sides and their table.
 use Rattle.std.specs.Prelude.{◌≡◌, ℕ, zero, suc, ◌+◌, ◌-◌, ◌^◌, ◌<◌, ◌≤◌, cond, List, [], ◌∷◌, ◌++◌, length, take, replicate, ◌==◌, nat_eq, nat_lt, slice_index, refl}
-use Rattle.std.proofs.Common.{⊎_elim, sym, ◌∙◌, le_refl, le_trans, arith}
+use Rattle.std.proofs.Common.{⊎_elim, sym, ◌∙◌, le_refl, arith}
 use Rattle.std.proofs.ByRecursion.{All-weaker}
 use Rattle.std.proofs.lemmas.List.{length-set, length-replicate, take_at}
 use Rattle.std.proofs.lemmas.List.Sums.{sum_by-cons, count_by-le-length}
@@ -10,7 +10,7 @@ use Rattle.lattice.specs.Kind.{Lawful, FirstBad, Ordered, Bounded, Closed, Monot
 use Rattle.lattice.specs.Lists.{value_lists}
 use Rattle.lattice.specs.Orders.{cellwise}
 use Rattle.lattice.specs.Words.{site, level}
-use Rattle.lattice.proofs.Cells.{append_upto, begins_same, filled_up, take_upto, replicate_upto, set_upto, all_upto, upto_all, cellwise_set, cellwise_antisymmetric, below_replicate, above_zeros}
+use Rattle.lattice.proofs.Cells.{append_upto, begins_same, filled_up, take_upto, replicate_upto, set_upto, all_upto, upto_all, cellwise_set, cellwise_ordered, below_replicate, above_zeros}
 use Rattle.lattice.proofs.Listed.{listed, listed_parts, listed_once}
 use Rattle.lattice.proofs.Neighbours.{length_neighbours}
 use Rattle.spins.specs.Spin.{holding, threshold_index, spins_meaning}
@@ -86,11 +86,7 @@ module _ (e : Extent) (table : List ℕ) where
   lawful_from x long each = rw (sym long) (listed 1 x (all_upto x 1 each))
 
   pub ordered : Ordered (spins_meaning e table)
-  ordered = record {
-    reflexive = λ x h i. le_refl _;
-    antisymmetric = λ x y h k low high. cellwise_antisymmetric x y ((lawful_parts x h).0 ∙ sym (lawful_parts y k).0) low high;
-    transitive = λ x y z h k l low high i. le_trans (low i) (high i);
-  }
+  ordered = cellwise_ordered _ _ _ _ (cell_count e) (λ x h. (lawful_parts x h).0)
 
   pub bounded : Bounded (spins_meaning e table)
   bounded = record {

@@ -2,9 +2,10 @@
 // set, each keeping neighbours from both being occupied.
 ghost use Rattle.std.specs.Prelude.{◌≡◌, ℕ, ◌≤◌, true, ◌&&◌, length, IfOk, if◌then◌else◌, nat_lt, slice_index, slice_set};
 ghost use Rattle.std.proofs.Common.{subst, ap, sym, ◌∙◌, rules};
-ghost use Rattle.independent_sets.specs.Independent.{checkerboard, free, independent, independent_sets, may_follow, threshold, white};
+ghost use Rattle.independent_sets.specs.Independent.{checkerboard, free, independent, independent_sets, may_follow, white};
 ghost use Rattle.independent_sets.specs.Sets.{rule_extent, state_cells, state_extent};
 ghost use Rattle.lattice.specs.Grid.{cell_count, Extent};
+ghost use Rattle.lattice.specs.Words.{middle_level};
 ghost use Rattle.lattice.specs.Shapes.{extent_of};
 ghost use Rattle.independent_sets.specs.Laws;
 ghost use Rattle.lattice.specs.Kind.{Lawful};
@@ -16,11 +17,8 @@ use lattice::fault::StateFault;
 use lattice::grid::Grid;
 use lattice::kind::Kind;
 use lattice::shape::{DIRECTIONS, Shape};
-use lattice::words::split;
+use lattice::words::{MIDDLE_LEVEL, split};
 use std::alloc::{AllocError, Global};
-
-// A level below this one fills a site whose neighbours are all empty.
-const THRESHOLD: u32 = 1 << 31;
 
 // Whether the cell's row and column add up to an even number.
 fn is_white(shape: &Shape, cell: usize) -> bool
@@ -79,9 +77,9 @@ impl IndependentSet {
 
     // Whether the level fills the site, and not clears it.
     fn fills(&self, site: usize, level: u32) -> bool
-        ensures { result ≡ (nat_lt level threshold && free (state_extent self.now) (state_cells self.now) site) }
+        ensures { result ≡ (nat_lt level middle_level && free (state_extent self.now) (state_cells self.now) site) }
     {
-        level < THRESHOLD && is_free(&self.grid.shape(), self.grid.as_slice(), site)
+        level < MIDDLE_LEVEL && is_free(&self.grid.shape(), self.grid.as_slice(), site)
     }
 
     // Takes cells that were found to be lawful.
@@ -128,19 +126,19 @@ impl Kind for IndependentSets {
     }
 
     fn set_bottom(&self, state: &mut IndependentSet) -> Result<(), StateFault> {
-        state.grid.own(&self.shape)?;
+        state.grid.check_shape(&self.shape)?;
         state.fill_colour(false);
         Ok(())
     }
 
     fn set_top(&self, state: &mut IndependentSet) -> Result<(), StateFault> {
-        state.grid.own(&self.shape)?;
+        state.grid.check_shape(&self.shape)?;
         state.fill_colour(true);
         Ok(())
     }
 
     fn apply(&self, state: &mut IndependentSet, word: u64) -> Result<(), StateFault> {
-        state.grid.own(&self.shape)?;
+        state.grid.check_shape(&self.shape)?;
         let (site, level) = split(word, self.shape.cell_count());
         let fills = state.fills(site as usize, level);
         state.put(site as usize, fills);

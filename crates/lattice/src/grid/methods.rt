@@ -97,7 +97,7 @@ impl Grid {
     }
 
     // Refuses a state that is to have this shape and has another.
-    pub fn own(&self, shape: &Shape) -> Result<(), StateFault>
+    pub fn check_shape(&self, shape: &Shape) -> Result<(), StateFault>
         ensures { answer (λ u. u) state_refusal result ≡ owner_answer (extent_of shape.now) (grid_extent self.now) }
     {
         if self.has_shape(shape) {
@@ -111,7 +111,7 @@ impl Grid {
     pub fn bytes_to_load<'a>(&self, shape: &Shape, bytes: &'a [u8]) -> Result<&'a [u8], StateFault>
         ensures { answer (λ r. r.now) state_refusal result ≡ read_answer (extent_of shape.now) (grid_extent self.now) bytes.now }
     {
-        self.own(shape)?;
+        self.check_shape(shape)?;
         bytes.get(..self.cells.len()).ok_or(StateFault::FewCells)
     }
 
@@ -119,7 +119,7 @@ impl Grid {
     pub fn cell_of(&self, shape: &Shape, index: u64) -> Result<u8, StateFault>
         ensures { answer (λ v. v) state_refusal result ≡ cell_answer (extent_of shape.now) (grid_extent self.now) (grid_cells self.now) index }
     {
-        self.own(shape)?;
+        self.check_shape(shape)?;
         self.cells
             .get(index as usize)
             .copied()
@@ -130,8 +130,8 @@ impl Grid {
     pub fn same_of(&self, shape: &Shape, other: &Grid) -> Result<bool, StateFault>
         ensures { EqualAnswers (extent_of shape.now) (grid_extent self.now) (grid_extent other.now) (grid_cells self.now) (grid_cells other.now) (answer (λ t. t) state_refusal result) }
     {
-        self.own(shape)?;
-        other.own(shape)?;
+        self.check_shape(shape)?;
+        other.check_shape(shape)?;
         Ok(self.cells == other.cells)
     }
 }

@@ -8,26 +8,28 @@ ghost use Rattle.lattice.specs.Shapes.{extent_of, shape_answer};
 use super::Shape;
 use crate::fault::ShapeFault;
 
-// A shift of rows and columns to a neighbour.
-pub const ABOVE: (isize, isize) = (-1, 0);
+// How far a neighbour lies away, in rows and in columns.
+pub type Shift = (isize, isize);
 
-pub const BELOW: (isize, isize) = (1, 0);
+pub const ABOVE: Shift = (-1, 0);
 
-pub const LEFT: (isize, isize) = (0, -1);
+pub const BELOW: Shift = (1, 0);
 
-pub const RIGHT: (isize, isize) = (0, 1);
+pub const LEFT: Shift = (0, -1);
 
-pub const DIRECTIONS: [(isize, isize); 4] = [ABOVE, BELOW, LEFT, RIGHT];
+pub const RIGHT: Shift = (0, 1);
+
+pub const DIRECTIONS: [Shift; 4] = [ABOVE, BELOW, LEFT, RIGHT];
 
 impl Shape {
     // Sides from 1 to 32 and a cap from 1 to `most`, the largest that the kind allows.
     pub fn new(rows: u64, columns: u64, cap: u64, most: u8) -> Result<Shape, ShapeFault>
         ensures { answer extent_of shape_refusal result ≡ shape_answer rows columns «cap» most }
     {
-        if rows < 1 || rows > 32 || columns < 1 || columns > 32 {
+        if !(1..=32).contains(&rows) || !(1..=32).contains(&columns) {
             return Err(ShapeFault::Side);
         }
-        if cap < 1 || cap > u64::from(most) {
+        if !(1..=u64::from(most)).contains(&cap) {
             return Err(ShapeFault::Cap);
         }
         Ok(Shape {
@@ -64,7 +66,7 @@ impl Shape {
     }
 
     // The cell that lies one shift away from `cell`, where there is one.
-    pub fn beside(&self, cell: usize, shift: (isize, isize)) -> Option<usize>
+    pub fn beside(&self, cell: usize, shift: Shift) -> Option<usize>
         ensures { result ≡ beside (extent_of self.now) cell shift }
     {
         let row = (cell / self.columns).checked_add_signed(shift.0)?;

@@ -16,11 +16,8 @@ use lattice::fault::StateFault;
 use lattice::grid::Grid;
 use lattice::kind::Kind;
 use lattice::shape::{ABOVE, BELOW, LEFT, RIGHT, Shape};
-use lattice::words::split;
+use lattice::words::{MIDDLE_LEVEL, split};
 use std::alloc::{AllocError, Global};
-
-// A word with a level below this one raises its site, any other lowers it.
-const THRESHOLD: u32 = 1 << 31;
 
 // The height at a cell, or the other where there is no cell; 0 past the last height.
 fn height_or(other: u8, heights: &[u8], cell: Option<usize>) -> u8
@@ -140,21 +137,21 @@ impl Kind for Partitions {
     }
 
     fn set_bottom(&self, state: &mut PlanePartition) -> Result<(), StateFault> {
-        state.grid.own(&self.shape)?;
+        state.grid.check_shape(&self.shape)?;
         state.fill(0);
         Ok(())
     }
 
     fn set_top(&self, state: &mut PlanePartition) -> Result<(), StateFault> {
-        state.grid.own(&self.shape)?;
+        state.grid.check_shape(&self.shape)?;
         state.fill(self.shape.cap());
         Ok(())
     }
 
     fn apply(&self, state: &mut PlanePartition, word: u64) -> Result<(), StateFault> {
-        state.grid.own(&self.shape)?;
+        state.grid.check_shape(&self.shape)?;
         let (site, level) = split(word, self.shape.cell_count());
-        if level < THRESHOLD {
+        if level < MIDDLE_LEVEL {
             state.raise(site as usize);
         } else {
             state.lower(site as usize);

@@ -140,19 +140,19 @@ impl Kind for Spins {
     }
 
     fn set_bottom(&self, state: &mut SpinGrid) -> Result<(), StateFault> {
-        state.grid.own(&self.shape)?;
+        state.grid.check_shape(&self.shape)?;
         state.turn_all(false);
         Ok(())
     }
 
     fn set_top(&self, state: &mut SpinGrid) -> Result<(), StateFault> {
-        state.grid.own(&self.shape)?;
+        state.grid.check_shape(&self.shape)?;
         state.turn_all(true);
         Ok(())
     }
 
     fn apply(&self, state: &mut SpinGrid, word: u64) -> Result<(), StateFault> {
-        state.grid.own(&self.shape)?;
+        state.grid.check_shape(&self.shape)?;
         let (site, level) = split(word, self.shape.cell_count());
         let index = self.threshold_index(state, site as usize);
         state.turn(site as usize, u64::from(level) < self.thresholds.at(index));
