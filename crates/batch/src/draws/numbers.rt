@@ -1,4 +1,4 @@
-// The numbers of batches and draws.
+// What batches and draws answer about themselves: the stretch, the tally, and the draw that is out.
 ghost use Rattle.std.specs.Prelude.{◌≡◌, ◌+◌, ◌<◌};
 ghost use Rattle.batch.specs.Machine.{counts};
 ghost use Rattle.batch.specs.Meanings.{batch_machine, drawn_says, met_machine, met_one, open_machine, open_one, tally_says};

@@ -86,8 +86,8 @@ impl<'a, S: Source> Window<'a, S> {
         ensures leads { MatchResult result (λ _. K.cells state.new ≡ lead (K.meaning rule.now) (words_in S.Source self.now) (K.cells state.old)) (λ _. ⊥) }
         ensures keeps { K.carried state.new ≡ K.carried state.old }
     {
-        for left in (0..self.places.window).rev() {
-            let word = self.places.word(left + 1)?;
+        for place in (1..=self.places.window).rev() {
+            let word = self.places.word(place)?;
             rule.apply(state, word)?;
         }
         Ok(())
