@@ -118,7 +118,7 @@ impl<'a, S: Source> Places<'a, S> {
     // How many of the source's places stand before the draw's.
     fn before(&self) -> u64
         ensures value { result ≡ self.now.number * self.now.stretch }
-        ensures fits { result ≤ 1099511627776 }
+        ensures fits { result ≤ limit * limit }
     {
         u64::from(self.number) * u64::from(self.stretch)
     }
