@@ -1,6 +1,6 @@
 -- Every history with its runs as tries.
-use Rattle.std.proofs.Common.{◌≡◌, ℕ, ◌+◌, ◌^◌, ◌≤◌, Bool, true, false, cond, List, [], ◌∷◌, ◌++◌, sym, refl, ap, ◌∙◌, subst, inl, inr}
-use Rattle.std.proofs.lemmas.Bool.{and_parts, leb-true}
+use Rattle.std.proofs.Common.{◌≡◌, ℕ, suc, ◌^◌, ◌≤◌, Bool, true, false, cond, List, [], ◌∷◌, ◌++◌, sym, refl, ap, ◌∙◌, subst, inl, inr}
+use Rattle.std.proofs.lemmas.Bool.{and_parts, cases_Bool, leb-true}
 use Rattle.refusal.specs.Refusals.{Refusal, given, provided}
 use Rattle.batch.specs.Histories.{Event, Has, History, event}
 use Rattle.batch.specs.Machine.{Machine, Out, drawn, new_machine, open_draw}
@@ -73,19 +73,28 @@ apart_adds_none p none_Apart (e ∷ ts) gs apart =
     rw here (apart_adds_none p none_Apart ts gs (λ f has. apart f (inr has)))
 
 abbrev one_more : (Said → Bool) → Said → ℕ → ℕ
-one_more p said n = cond (p said) (n + 1) n
+one_more p said n = cond (p said) (suc n) n
+
+-- an event more adds one where its answer is such a one
+more : (p : Said → Bool) (e : Event) (es : List Event) → how_many p (e ∷ es) ≡ one_more p e.response.said (how_many p es)
+more p e es =
+    elim (cases_Bool (p e.response.said)) [
+      | inl t ↦ rw t refl
+      | inr f ↦ rw f refl
+    ]
 
 -- the tries of a run add what the run does
 tries_add : (p : Said → Bool) → p said_apart ≡ false → (stretch tried : ℕ) (sc : Response) (ts gs : List Event) → TriesOfRun stretch tried sc ts → how_many p (ts ++ gs) ≡ one_more p sc.said (how_many p gs)
 tries_add p none_Apart stretch tried sc [] gs tries = absurd tries
 tries_add p none_Apart stretch tried sc (e ∷ ts) gs tries =
-    ap (λ (x : Response). one_more p x.said (how_many p (ts ++ gs))) tries.3
+    more p e (ts ++ gs)
+    ∙ ap (λ (x : Response). one_more p x.said (how_many p (ts ++ gs))) tries.3
     ∙ ap (one_more p sc.said) (apart_adds_none p none_Apart ts gs (λ f has. (tries.4.each f has).4))
 
 one_kept : (p : Said → Bool) → p said_apart ≡ false → p said_misplaced ≡ false → (q : Request) (t : Two) (sc : Response) (gs fs : List Event) → UnrollsOne q (event q t sc) gs fs → how_many p fs ≡ one_more p sc.said (how_many p gs)
 one_kept p none_Apart none_misplaced Run t sc gs fs (inl h) = ap (how_many p) h.1 ∙ sym (rw (ap p h.0 ∙ none_misplaced) refl)
 one_kept p none_Apart none_misplaced Run t sc gs fs (inr h) = ap (how_many p) h.2 ∙ tries_add p none_Apart _ _ sc h.0 gs h.1
-one_kept p none_Apart none_misplaced q t sc gs fs is = ap (how_many p) is
+one_kept p none_Apart none_misplaced q t sc gs fs is = ap (how_many p) is ∙ more p (event q t sc) gs
 
 -- with tries in place of runs the counts are the same
 count_kept : (p : Said → Bool) → p said_apart ≡ false → p said_misplaced ≡ false → (es fs : List Event) → Unrolls es fs → how_many p fs ≡ how_many p es
@@ -93,6 +102,7 @@ count_kept p none_Apart none_misplaced [] fs is = ap (how_many p) is
 count_kept p none_Apart none_misplaced (e ∷ es) fs h =
     one_kept p none_Apart none_misplaced e.request e.states e.response h.0 fs h.2
     ∙ ap (one_more p e.response.said) (count_kept p none_Apart none_misplaced es h.0 h.1)
+    ∙ sym (more p e es)
 
 pub counted : (s : Setting) → TallyCountsTheCalls s
 counted s es m h =

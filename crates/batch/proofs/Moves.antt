@@ -1,5 +1,5 @@
 -- One word of a window, and the move that it makes.
-use Rattle.std.proofs.Common.{◌≡◌, ℕ, suc, ◌+◌, ◌≤◌, Bool, true, false, List, add-one, arith}
+use Rattle.std.proofs.Common.{◌≡◌, ℕ, suc, ◌<◌, Bool, true, false, List, arith}
 use Rattle.coupling.specs.Lead.{lead}
 use Rattle.coupling.specs.Windows.{draw_place, window_words}
 use Rattle.lattice.specs.Kind.{Meaning}
@@ -7,7 +7,7 @@ use Rattle.refusal.specs.Refusals.{Refusal, given, provided}
 use Rattle.sources.specs.Sources.{Reading, has_place}
 use Rattle.batch.specs.Tries.{placed, read_for}
 
-pub no_words : (m : Meaning) (r : Reading) (stretch d t : ℕ) (x end : List ℕ) → t ≤ 0 → lead m (window_words r stretch d t) x ≡ end → x ≡ end
+pub no_words : (m : Meaning) (r : Reading) (stretch d t : ℕ) (x end : List ℕ) → t < 1 → lead m (window_words r stretch d t) x ≡ end → x ≡ end
 unfolding window_words
 no_words m r stretch d t x end none leads = let e : t ≡ 0 = omega arith in rw e at leads
 
@@ -17,8 +17,8 @@ the_word number T w v true c e = cc
 the_word number T w v false c e = cc
 
 -- a move by the oldest word leaves the others to lead on
-pub moved : (m : Meaning) (r : Reading) (stretch d T t n w : ℕ) (x y end : List ℕ) → n ≡ suc t → given w ≡ placed r stretch d T (t + 1) → y ≡ m.step w x → lead m (window_words r stretch d n) x ≡ end → lead m (window_words r stretch d t) y ≡ end
+pub moved : (m : Meaning) (r : Reading) (stretch d T t n w : ℕ) (x y end : List ℕ) → n ≡ suc t → given w ≡ placed r stretch d T n → y ≡ m.step w x → lead m (window_words r stretch d n) x ≡ end → lead m (window_words r stretch d t) y ≡ end
 unfolding window_words
 moved m r stretch d T t n w x y end e read step leads =
-    let here = the_word d T w _ (has_place r (draw_place stretch d (t + 1))) _ read in
-    rw (step, here, add-one) (rw e at leads)
+    let here = the_word d T w _ (has_place r (draw_place stretch d n)) _ read in
+    rw (step, here, e) (rw e at leads)

@@ -2,13 +2,13 @@
 use Rattle.std.proofs.Common.{◌≡◌, ℕ, ◌≤◌, Bool, true, false, ltb, ◌⊎◌, List, sym, refl, ap, ◌∙◌, inl, inr, arith}
 use Rattle.std.proofs.lemmas.Bool.{cases_Bool}
 use Rattle.coupling.proofs.Filled.{window_is_words}
+use Rattle.coupling.proofs.Laws.{Laws}
 use Rattle.coupling.proofs.Samples.{larger_windows}
 use Rattle.coupling.proofs.Sandwich.{apart_where_some_differ, meets_where_all_end}
 use Rattle.coupling.specs.Ends.{AllEndIn}
 use Rattle.coupling.specs.Lead.{Ends, apart_at, met_in, outcome}
 use Rattle.coupling.specs.Windows.{CanFill}
 use Rattle.lattice.specs.Faults.{state_refusal}
-use Rattle.lattice.specs.Kind.{Bounded, Closed, Monotone, Ordered}
 use Rattle.lattice.specs.declared.fault.StateFault.TheVariants.{Foreign}
 use Rattle.refusal.specs.Refusals.{Answer, Refusal, given, provided, refused}
 use Rattle.sources.specs.Sources.{Sound}
@@ -47,12 +47,12 @@ run_report s m st report h =
       | inr foreign ↦ inr (state_refusal Foreign, rw foreign at h)
     ]
 
-module _ (s : Setting) (ordered : Ordered s.rule) (bounded : Bounded s.rule) (closed : Closed s.rule) (monotone : Monotone s.rule) (sound : Sound s.source) where
+module _ (s : Setting) (laws : Laws s.rule) (sound : Sound s.source) where
   -- every start ends in y, from window T and from larger ones
   arrives_in : (stretch : ℕ) (d : Draw) (T : ℕ) (y : List ℕ) → outcome s.rule (words_of s stretch d T) ≡ met_in y → (U : ℕ) → T ≤ U → CanFill s.source stretch d.number U → AllEndIn s.rule (words_of s stretch d U) y
   arrives_in stretch d T y e U upto fill =
-      (meets_where_all_end s.rule ordered bounded closed monotone (words_of s stretch d U) (window_is_words s.source sound stretch d.number U fill) y).0
-      (larger_windows s.rule ordered bounded closed monotone s.source sound stretch d.number T U fill upto y e)
+      (meets_where_all_end s.rule laws (words_of s stretch d U) (window_is_words s.source sound stretch d.number U fill) y).0
+      (larger_windows s.rule laws s.source sound stretch d.number T U fill upto y e)
 
   ends_exact : (q : Request) (t : Two) (m : Machine) (d : Draw) (T : ℕ) (ends : Ends) → ((U : ℕ) → q ≡ Try U → T ≡ U) → CanFill s.source m.stretch d.number T → outcome s.rule (words_of s m.stretch d T) ≡ ends → Exact s m.stretch (event q t (reported (ends_report m d T ends)))
   ends_exact q t m d T (met_in y) window fills e =
@@ -65,7 +65,7 @@ module _ (s : Setting) (ordered : Ordered s.rule) (bounded : Bounded s.rule) (cl
             rw same (λ apart. cc, λ apart. absurd (apart.4 (all apart.0 apart.2 ∙ sym (all apart.1 apart.3)))),
       )
   ends_exact q t m d T (apart_at x y) window fills e =
-      let differ = (apart_where_some_differ s.rule ordered bounded closed monotone (words_of s m.stretch d T) (window_is_words s.source sound m.stretch d.number T fills)).0 x y e in (
+      let differ = (apart_where_some_differ s.rule laws (words_of s m.stretch d T) (window_is_words s.source sound m.stretch d.number T fills)).0 x y e in (
         λ met. cc,
         λ _. record { draw = tried_to d T; out = refl; window = window; fills = fills; by_words = e },
         λ _ c out.

@@ -1,13 +1,13 @@
 -- The counts of a batch, along every history without runs.
-use Rattle.std.proofs.Common.{◌≡◌, ℕ, ◌+◌, ◌<◌, Bool, true, false, List, [], ◌∷◌, Some, sym, refl, ap, ◌∙◌, subst, inl, inr, arith, rules}
-use Rattle.std.proofs.lemmas.Bool.{lt-ltb}
+use Rattle.std.proofs.Common.{◌≡◌, ℕ, suc, max, add-one, ◌+◌, ◌<◌, Bool, true, false, List, [], ◌∷◌, Some, sym, refl, ap, ◌∙◌, subst, inl, inr, arith, rules}
+use Rattle.std.proofs.Math.Nat.{max-eq_right}
 use Rattle.coupling.specs.Lead.{Ends, apart_at, met_in, outcome}
 use Rattle.refusal.specs.Refusals.{Refusal, given, provided}
 use Rattle.batch.specs.Histories.{Event, event}
 use Rattle.batch.specs.Machine.{Draw, Machine, Out, drawn, left_after, met_draw, new_answer, new_machine, none, one_closed, one_given_up, one_opened, open_draw, with_out}
 use Rattle.batch.specs.Ends.{Two}
 use Rattle.batch.specs.Requests.{CarriesByDraw, Response, states_kept, reported, said_apart, said_closed, said_given_up, said_met, said_misplaced, said_open, said_opened, response}
-use Rattle.batch.specs.Tallies.{Counted, Tallies, greatest_tried, larger_of, since_open}
+use Rattle.batch.specs.Tallies.{Counted, Tallies, greatest_tried, since_open}
 use Rattle.batch.specs.Tries.{Setting, ends_report, report_of, tried_to, try_report, words_of_try, with_two}
 use Rattle.batch.specs.declared.stage.Request.{Request}
 use Rattle.batch.specs.declared.stage.Request.TheVariants.{Open, Try, Run, Close, GiveUp}
@@ -29,7 +29,7 @@ begins stretch m e = subst (Tallies []) (new_is m _ _ (new_machine stretch) e) (
 opened_adds : (t : Two) (x y : List ℕ) (n : Machine) (es : List Event) (m : Machine) → m.out ≡ none → Tallies es m → Tallies (event Open t (response said_opened n x y) ∷ es) (one_opened m)
 opened_adds t x y n es m free h =
     record {
-      counts = record { opened = ap (λ (k : ℕ). k + 1) h.counts.opened; met = h.counts.met; given_up = h.counts.given_up };
+      counts = record { opened = add-one _ ∙ ap suc h.counts.opened; met = h.counts.met; given_up = h.counts.given_up };
       idle = λ out. cc;
       busy = λ d out. ap (λ (k : ℕ). k + 1) (h.idle free);
       number = λ d out. cc h.counts.opened;
@@ -38,15 +38,12 @@ opened_adds t x y n es m free h =
       has_met = λ d out. cc;
     }
 
-larger_is : (a b : ℕ) → a < b → b ≡ larger_of a b
-larger_is a b h = rw (lt-ltb a b h) refl
-
 module _ (T : ℕ) (t : Two) (x y : List ℕ) (n : Machine) (es : List Event) (m : Machine) (d : Draw) (is_open : m.out ≡ open_draw d) (larger : d.tried < T) (h : Tallies es m) where
   was_out : drawn m.out ≡ Some d
   was_out = ap drawn is_open
 
-  window_now : T ≡ larger_of (greatest_tried (since_open es)) T
-  window_now = larger_is _ T (subst (λ (k : ℕ). k < T) (h.window d was_out) larger)
+  window_now : T ≡ max (greatest_tried (since_open es)) T
+  window_now = sym (max-eq_right (omega (arith, h.window d was_out, larger)))
 
   apart_tried : Tallies (event (Try T) t (response said_apart n x y) ∷ es) (with_out m (open_draw (tried_to d T)))
   apart_tried =
@@ -69,18 +66,18 @@ module _ (T : ℕ) (t : Two) (x y : List ℕ) (n : Machine) (es : List Event) (m
         number = λ c out. cc (h.number d was_out);
         window = λ c out. cc window_now;
         still_open = λ c out. cc;
-        has_met = λ c out. ap (λ (k : ℕ). k + 1) (h.still_open d is_open);
+        has_met = λ c out. ap suc (h.still_open d is_open);
       }
 
 closed_adds : (t : Two) (x y : List ℕ) (n : Machine) (es : List Event) (m : Machine) (d : Draw) → m.out ≡ met_draw d → Tallies es m → Tallies (event Close t (response said_closed n x y) ∷ es) (one_closed m)
 closed_adds t x y n es m d out h =
     idle_tallies _ _ refl (omega (arith, h.busy d (ap drawn out)))
-    (record { opened = h.counts.opened; met = ap (λ (k : ℕ). k + 1) h.counts.met; given_up = h.counts.given_up })
+    (record { opened = h.counts.opened; met = add-one _ ∙ ap suc h.counts.met; given_up = h.counts.given_up })
 
 given_up_adds : (t : Two) (x y : List ℕ) (n : Machine) (es : List Event) (m : Machine) (d : Draw) → m.out ≡ open_draw d → Tallies es m → Tallies (event GiveUp t (response said_given_up n x y) ∷ es) (one_given_up m)
 given_up_adds t x y n es m d out h =
     idle_tallies _ _ refl (omega (arith, h.busy d (ap drawn out)))
-    (record { opened = h.counts.opened; met = h.counts.met; given_up = ap (λ (k : ℕ). k + 1) h.counts.given_up })
+    (record { opened = h.counts.opened; met = h.counts.met; given_up = add-one _ ∙ ap suc h.counts.given_up })
 
 abbrev With : Request → Two → List Event → Response → Type 0
 With q t es sc = Tallies (event q t sc ∷ es) sc.machine

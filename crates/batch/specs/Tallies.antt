@@ -1,5 +1,6 @@
 -- What the counts of a batch count, and how a run counts as its tries.
-use Rattle.std.specs.Prelude.{◌≡◌, ℕ, ◌+◌, ◌<◌, Bool, true, false, cond, ◌⊎◌, List, [], ◌∷◌, ◌++◌, Some, nat_lt}
+use Rattle.std.specs.Prelude.{◌≡◌, ℕ, ◌+◌, ◌<◌, max, Bool, true, false, cond, ◌⊎◌, List, [], ◌∷◌, ◌++◌, length, Some}
+use Rattle.std.specs.List.{filter}
 use Rattle.batch.specs.Histories.{Event, Has, History, is_tried}
 use Rattle.batch.specs.Machine.{Draw, Machine, drawn, met_draw, none, open_draw}
 use Rattle.batch.specs.Requests.{Said, Response, said_apart, said_closed, said_given_up, said_met, said_misplaced, said_opened}
@@ -28,8 +29,7 @@ is_met _ = false
 
 -- How many events have such an answer.
 abbrev pub how_many : (Said → Bool) → List Event → ℕ
-how_many p [] = 0
-how_many p (e ∷ es) = cond (p e.response.said) (how_many p es + 1) (how_many p es)
+how_many p es = length (filter (λ e. p e.response.said) es)
 
 -- The events since the last accepted open, and those before it.
 abbrev pub since_open : List Event → List Event
@@ -45,13 +45,10 @@ abbrev pub window_of : Request → ℕ
 window_of (Try T) = T
 window_of _ = 0
 
-abbrev pub larger_of : ℕ → ℕ → ℕ
-larger_of a b = cond (nat_lt a b) b a
-
 -- The greatest window of the accepted tries, 0 if there is none.
 abbrev pub greatest_tried : List Event → ℕ
 greatest_tried [] = 0
-greatest_tried (e ∷ es) = cond (is_tried e.response.said) (larger_of (greatest_tried es) (window_of e.request)) (greatest_tried es)
+greatest_tried (e ∷ es) = cond (is_tried e.response.said) (max (greatest_tried es) (window_of e.request)) (greatest_tried es)
 
 -- The counts are the numbers of accepted opens, of closes and of give-ups.
 pub record Counted (es : List Event) (m : Machine) : Type 0 where

@@ -1,5 +1,6 @@
 // The batch, its draws and the token. They are moved from call to call, and only the calls of this crate make them.
 ghost use Rattle.std.specs.Prelude.{◌≡◌, ◌+◌, ◌<◌, ◌≤◌};
+ghost use Rattle.batch.specs.Machine.{limit};
 
 mod calls;
 mod numbers;
@@ -14,8 +15,8 @@ pub struct Batch {
     stretch: u32,
     tally: Tally,
     ghost some: { 1 ≤ stretch },
-    ghost fits: { stretch ≤ 1048576 },
-    ghost few: { tally.opened ≤ 1048576 },
+    ghost fits: { stretch ≤ limit },
+    ghost few: { tally.opened ≤ limit },
     ghost fair: { tally.opened ≡ tally.met + tally.given_up },
 }
 
@@ -25,7 +26,7 @@ pub struct OpenDraw {
     batch: Batch,
     // The largest window tried, 0 at first.
     tried: u32,
-    ghost few: { batch.tally.opened < 1048576 },
+    ghost few: { batch.tally.opened < limit },
     ghost fits: { tried ≤ batch.stretch },
 }
 

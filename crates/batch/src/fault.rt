@@ -1,8 +1,7 @@
 // The refusals of batches and draws. specs/Faults.antt has their numbers.
-ghost use Rattle.std.specs.Prelude.{◌≡◌, ◌++◌, is_ok, if◌then◌else◌};
-ghost use Rattle.batch.specs.Faults.{fault_refusal, stretch_refusal};
+ghost use Rattle.std.specs.Prelude.{◌≡◌};
+ghost use Rattle.batch.specs.Faults.{fault_refusal, stretch_refusal, unfilled_cause};
 ghost use Rattle.batch.specs.declared.fault.Fault.TheVariants.{Source, State};
-ghost use Rattle.refusal.specs.Refusals.{row};
 
 use crate::draws::Batch;
 use lattice::fault::StateFault;
@@ -68,6 +67,20 @@ impl Cause for StretchFault {
     }
 }
 
+impl<F: Cause + Drop> Cause for Unfilled<F> {
+    ghost refusal = { unfilled_cause F.refusal };
+
+    fn tell(&self, numbers: &mut Vec<u64>) -> Result<(), AllocError> {
+        let before = numbers.len();
+        numbers.extend_from_slice(&[25, self.number, self.window])?;
+        let told = self.cause.tell(numbers);
+        if told.is_err() {
+            numbers.truncate(before);
+        }
+        told
+    }
+}
+
 impl<F: Cause + Drop> Cause for Fault<F> {
     ghost refusal = { fault_refusal F.refusal };
 
@@ -77,23 +90,8 @@ impl<F: Cause + Drop> Cause for Fault<F> {
             Fault::State(fault) => fault.tell(numbers)?,
             Fault::Window => numbers.push(23)?,
             Fault::Tried => numbers.push(24)?,
-            Fault::Source(unfilled) => tell_unfilled(unfilled, numbers)?,
+            Fault::Source(unfilled) => unfilled.tell(numbers)?,
         }
         Ok(())
     }
-}
-
-fn tell_unfilled<F: Cause + Drop>(
-    unfilled: &Unfilled<F>,
-    numbers: &mut Vec<u64>,
-) -> Result<(), AllocError>
-    ensures { numbers.new.items ≡ (if is_ok result then numbers.old.items ++ row (fault_refusal F.refusal (Source unfilled.now)) else numbers.old.items) }
-{
-    let before = numbers.len();
-    numbers.extend_from_slice(&[25, unfilled.number, unfilled.window])?;
-    let told = unfilled.cause.tell(numbers);
-    if told.is_err() {
-        numbers.truncate(before);
-    }
-    told
 }

@@ -1,6 +1,7 @@
 pub mod Filled
 pub mod Outcomes
 pub mod Samples
+pub mod Laws
 pub mod Sandwich
 pub mod Shares
 pub mod Stationary

@@ -1,12 +1,13 @@
 -- Larger windows, and agreeing sources, give the same sample.
 use Rattle.std.proofs.Common.{◌≡◌, ℕ, ◌<◌, ◌≤◌, List, [], ◌∷◌, ◌++◌, sym, ◌∙◌, ⊎_elim, arith}
 use Rattle.std.proofs.lemmas.Bool.{cases_lt}
-use Rattle.lattice.specs.Kind.{Meaning, Ordered, Bounded, Closed, Monotone}
+use Rattle.lattice.specs.Kind.{Meaning}
 use Rattle.sources.specs.Sources.{Reading, Sound}
 use Rattle.coupling.specs.Ends.{AgreeingSourcesMeetAlike, OlderWordsChangeNothing, LargerWindowsKeepTheSample}
 use Rattle.coupling.specs.Lead.{Words, lead, met_in, outcome}
 use Rattle.coupling.specs.Windows.{Agree, CanFill, window_words}
 use Rattle.coupling.proofs.Filled.{fills_smaller, older_words, same_window, window_is_words}
+use Rattle.coupling.proofs.Laws.{Laws}
 use Rattle.coupling.proofs.Sandwich.{lead_append, lead_lawful, meets_where_all_end}
 
 words_front : (older newer : List ℕ) → Words (older ++ newer) → Words older
@@ -17,14 +18,14 @@ words_back : (older newer : List ℕ) → Words (older ++ newer) → Words newer
 words_back [] newer all = all
 words_back (w ∷ ws) newer all = words_back ws newer all.1
 
-module _ (m : Meaning) (ordered : Ordered m) (bounded : Bounded m) (closed : Closed m) (monotone : Monotone m) where
+module _ (m : Meaning) (laws : Laws m) where
   -- words in front of some that meet change nothing
   pub older_change_nothing : OlderWordsChangeNothing m
   older_change_nothing older newer all y met =
-      let meets = meets_where_all_end m ordered bounded closed monotone in
+      let meets = meets_where_all_end m laws in
       let together = (meets newer (words_back older newer all) y).0 met in
       (meets (older ++ newer) all y).1
-      (λ x h. lead_append m older newer x ∙ together (lead m older x) (lead_lawful m closed older (words_front older newer all) x h))
+      (λ x h. lead_append m older newer x ∙ together (lead m older x) (lead_lawful m laws.closed older (words_front older newer all) x h))
 
   pub larger_windows : (r : Reading) → Sound r → LargerWindowsKeepTheSample m r
   larger_windows r sound stretch d T U fill upto y met =

@@ -1,8 +1,9 @@
 -- Every lawful start ends between the ends of bottom and top.
 use Rattle.std.proofs.Common.{◌≡◌, ℕ, List, [], ◌∷◌, ◌++◌, sym, refl, ap, ◌∙◌}
-use Rattle.lattice.specs.Kind.{Meaning, Lawful, Ordered, Bounded, Closed, Monotone}
+use Rattle.lattice.specs.Kind.{Meaning, Lawful, Closed}
 use Rattle.coupling.specs.Ends.{AllEndIn, ApartWhereSomeDiffer, EndsBetween, MeetsWhereAllEnd}
 use Rattle.coupling.specs.Lead.{Words, lead, met_in}
+use Rattle.coupling.proofs.Laws.{Laws}
 use Rattle.coupling.proofs.Outcomes.{apart_ends, different_ends, equal_ends, met_ends}
 
 -- older words come first
@@ -14,37 +15,37 @@ pub lead_lawful : (m : Meaning) → Closed m → (ws : List ℕ) → Words ws �
 lead_lawful m closed [] all x h = h
 lead_lawful m closed (w ∷ ws) all x h = lead_lawful m closed ws all.1 (m.step w x) (closed w all.0 x h)
 
-module _ (m : Meaning) (ordered : Ordered m) (bounded : Bounded m) (closed : Closed m) (monotone : Monotone m) where
+module _ (m : Meaning) (laws : Laws m) where
   lead_monotone : (ws : List ℕ) → Words ws → (x y : List ℕ) → Lawful m x → Lawful m y → m.below x y → m.below (lead m ws x) (lead m ws y)
   lead_monotone [] all x y hx hy below = below
   lead_monotone (w ∷ ws) all x y hx hy below =
-      lead_monotone ws all.1 (m.step w x) (m.step w y) (closed w all.0 x hx) (closed w all.0 y hy) (monotone w all.0 x y hx hy below)
+      lead_monotone ws all.1 (m.step w x) (m.step w y) (laws.closed w all.0 x hx) (laws.closed w all.0 y hy) (laws.monotone w all.0 x y hx hy below)
 
   pub ends_between : EndsBetween m
   ends_between ws all x h = (
-    lead_monotone ws all m.bottom x bounded.bottom_lawful h (bounded.above_bottom x h),
-    lead_monotone ws all x m.top h bounded.top_lawful (bounded.below_top x h),
+    lead_monotone ws all m.bottom x laws.bounded.bottom_lawful h (laws.bounded.above_bottom x h),
+    lead_monotone ws all x m.top h laws.bounded.top_lawful (laws.bounded.below_top x h),
   )
 
   -- where the two ends are one state, every lawful start ends there
   all_end_together : (ws : List ℕ) → Words ws → (y : List ℕ) → lead m ws m.bottom ≡ y → lead m ws m.top ≡ y → AllEndIn m ws y
   all_end_together ws all y low high x h =
       let between = ends_between ws all x h in
-      let bottom = lead_lawful m closed ws all m.bottom bounded.bottom_lawful in
-      ordered.antisymmetric (lead m ws x) y (lead_lawful m closed ws all x h) (rw low at bottom) (rw high at between.1) (rw low at between.0)
+      let bottom = lead_lawful m laws.closed ws all m.bottom laws.bounded.bottom_lawful in
+      laws.ordered.antisymmetric (lead m ws x) y (lead_lawful m laws.closed ws all x h) (rw low at bottom) (rw high at between.1) (rw low at between.0)
 
   pub meets_where_all_end : MeetsWhereAllEnd m
   meets_where_all_end ws all y = (
     λ met. let ends = met_ends (lead m ws m.bottom) (lead m ws m.top) y met in all_end_together ws all y ends.0 ends.1,
     λ together.
-        let low = together m.bottom bounded.bottom_lawful in
-        let high = together m.top bounded.top_lawful in
+        let low = together m.bottom laws.bounded.bottom_lawful in
+        let high = together m.top laws.bounded.top_lawful in
         equal_ends (lead m ws m.bottom) (lead m ws m.top) (low ∙ sym high) ∙ ap met_in low,
   )
 
   pub apart_where_some_differ : ApartWhereSomeDiffer m
   apart_where_some_differ ws all = (
-    λ low high apart. (m.bottom, m.top, bounded.bottom_lawful, bounded.top_lawful, (apart_ends (lead m ws m.bottom) (lead m ws m.top) low high apart).0),
+    λ low high apart. (m.bottom, m.top, laws.bounded.bottom_lawful, laws.bounded.top_lawful, (apart_ends (lead m ws m.bottom) (lead m ws m.top) low high apart).0),
     λ some.
         different_ends (lead m ws m.bottom) (lead m ws m.top)
         (λ same.

@@ -1,6 +1,6 @@
-// The numbers of batches and draws.
+// What batches and draws answer about themselves: the stretch, the tally, and the draw that is out.
 ghost use Rattle.std.specs.Prelude.{◌≡◌, ◌+◌, ◌<◌};
-ghost use Rattle.batch.specs.Machine.{counts};
+ghost use Rattle.batch.specs.Machine.{counts, limit};
 ghost use Rattle.batch.specs.Meanings.{batch_machine, drawn_says, met_machine, met_one, open_machine, open_one, tally_says};
 
 use crate::draws::{Batch, MetDraw, OpenDraw, Tally};
@@ -24,7 +24,7 @@ impl Batch {
 impl Tally {
     // The tally while a draw is out, which has been opened too.
     pub(super) fn with_draw(self) -> Tally
-        requires { self.opened < 1048576 }
+        requires { self.opened < limit }
         ensures { result ≡ record self { opened = self.opened + 1 } }
     {
         Tally {

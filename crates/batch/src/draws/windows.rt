@@ -1,5 +1,6 @@
 // The window of a draw that is tried: its words lead a state to time zero, the oldest first.
 ghost use Rattle.std.specs.Prelude.{◌≡◌, ◌+◌, ◌*◌, ◌<◌, ◌≤◌, true};
+ghost use Rattle.batch.specs.Machine.{limit};
 ghost use Rattle.coupling.specs.Windows.{draw_place};
 ghost use Rattle.sources.specs.Sources.{has_place};
 
@@ -17,8 +18,8 @@ struct Places<'a, S: Source> {
     number: u32,
     stretch: u32,
     window: u64,
-    ghost few: { number < 1048576 },
-    ghost fits: { stretch ≤ 1048576 },
+    ghost few: { number < limit },
+    ghost fits: { stretch ≤ limit },
     ghost some: { 1 ≤ window },
     ghost within: { window ≤ stretch },
 }
@@ -86,8 +87,8 @@ impl<'a, S: Source> Window<'a, S> {
         ensures leads { MatchResult result (λ _. K.cells state.new ≡ lead (K.meaning rule.now) (words_in S.Source self.now) (K.cells state.old)) (λ _. ⊥) }
         ensures keeps { K.carried state.new ≡ K.carried state.old }
     {
-        for left in (0..self.places.window).rev() {
-            let word = self.places.word(left + 1)?;
+        for place in (1..=self.places.window).rev() {
+            let word = self.places.word(place)?;
             rule.apply(state, word)?;
         }
         Ok(())
@@ -101,7 +102,7 @@ impl<'a, S: Source> Places<'a, S> {
 
     // The word at a place of the draw.
     fn word(&self, place: u64) -> Result<u64, Unfilled<S::Fault>>
-        requires { place ≤ 1048576 }
+        requires { place ≤ limit }
         ensures { answer (λ w. w) (unfilled_cause S.Fault.refusal) result ≡ placed (S.reading self.now.source.now) self.now.stretch self.now.number self.now.window place }
     {
         let Places { number, window, .. } = self;
@@ -117,7 +118,7 @@ impl<'a, S: Source> Places<'a, S> {
     // How many of the source's places stand before the draw's.
     fn before(&self) -> u64
         ensures value { result ≡ self.now.number * self.now.stretch }
-        ensures fits { result ≤ 1099511627776 }
+        ensures fits { result ≤ limit * limit }
     {
         u64::from(self.number) * u64::from(self.stretch)
     }

@@ -5,10 +5,10 @@ use Rattle.batch.specs.Reads.{words_in}
 use Rattle.batch.proofs.draws.windows.Window.lead.Given as goal
 
 -- the words that are left lead the state now to where all of them lead the first one
-abbrev pub invariant-loop-left : goal.invariant-loop-left
-invariant-loop-left g l =
+abbrev pub invariant-loop-place : goal.invariant-loop-place
+invariant-loop-place g l =
     let p = l.self.places in
     let m = g.K.Kind.meaning l.rule in
-    (lead m (window_words (g.S.Source.reading p.source.now) p.stretch p.number l.left) (g.K.Kind.cells l.state)
+    (lead m (window_words (g.S.Source.reading p.source.now) p.stretch p.number l.place) (g.K.Kind.cells l.state)
     ≡ lead m (words_in g.S.Source l.self) (g.K.Kind.cells l.initial.state))
     × (g.K.Kind.carried l.state ≡ g.K.Kind.carried l.initial.state)
