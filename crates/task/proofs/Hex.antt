@@ -1,11 +1,12 @@
 -- Bytes read from hex, one after another.
-use Rattle.std.proofs.Common.{◌≡◌, ℕ, ◌+◌, ◌*◌, ◌/◌, ◌%◌, ◌<◌, Bool, false, List, [], ◌∷◌, map, length, Some, None, Ok, Err, codes, Option, Result, refl, sym, ap, ◌∙◌, inl, inr, arith}
+use Rattle.std.proofs.Common.{◌≡◌, ℕ, ◌+◌, ◌*◌, ◌/◌, ◌%◌, ◌<◌, ◌&&◌, Bool, false, List, [], ◌∷◌, map, length, Some, None, Ok, Err, is_some, codes, Option, Result, refl, sym, ap, ◌∙◌, inl, inr, arith}
 use Rattle.std.proofs.lemmas.Slice.Eq.{bytes_eq-Decides}
 use Rattle.std.proofs.lemmas.Bool.{cases_Bool, cases_eq}
 use Rattle.std.proofs.lemmas.Bool.Decides.{nat_tests, not_from_Decides}
+use Rattle.std.proofs.Math.Bool.{and_assoc}
 use Rattle.std.specs.Str.{bytes_eq}
-use Rattle.std.specs.Char.{digit_char, to_ascii_lowercase}
-use Rattle.std.specs.List.{AllByRecursion}
+use Rattle.std.specs.Char.{digit_char, is_ascii_hexdigit, to_ascii_lowercase}
+use Rattle.std.specs.List.{AllByRecursion, list_all}
 use Rattle.task.specs.Laws.{hex_text, ReadsHex}
 use Rattle.std.specs.Bool.{then_some}
 use Rattle.std.specs.Option.{option_map}
@@ -35,7 +36,7 @@ both_none : {A B C : Type 0} (f : A → B → C) (x : Option A) → both f x Non
 both_none f None = refl
 both_none f (Some x) = refl
 
-odd_pairs : (w : List ℕ) → length w % 2 ≡ 1 → hex_pairs w ≡ None
+pub odd_pairs : (w : List ℕ) → length w % 2 ≡ 1 → hex_pairs w ≡ None
 odd_pairs [] odd = absurd (omega arith)
 odd_pairs (a ∷ []) odd = refl
 odd_pairs (a ∷ b ∷ cs) odd = rw (odd_pairs cs (omega arith)) (both_none _ (hex_byte a b))
@@ -96,6 +97,25 @@ law_from w None e other = λ bytes small writes. elim writes [
   | inr dash ↦ other dash.0
 ]
 law_from w (Some bytes) e other = inl (pairs_write w bytes e)
+
+digit_there : (c : ℕ) → is_some (hex_digit c) ≡ is_ascii_hexdigit c
+digit_there c = grind (arith, nat_tests)
+
+both_there : {A B C : Type 0} (f : A → B → C) (x : Option A) (y : Option B) → is_some (both f x y) ≡ (is_some x && is_some y)
+both_there f None y = refl
+both_there f (Some x) None = refl
+both_there f (Some x) (Some y) = refl
+
+-- An even number of bytes are pairs of digits where each is one.
+pub even_pairs : (w : List ℕ) → length w % 2 ≡ 0 → is_some (hex_pairs w) ≡ list_all is_ascii_hexdigit w
+even_pairs [] even = refl
+even_pairs (a ∷ []) even = absurd (omega arith)
+even_pairs (a ∷ b ∷ cs) even =
+    rw (both_there, both_there, digit_there a, digit_there b, even_pairs cs (omega arith)) (and_assoc (is_ascii_hexdigit a) (is_ascii_hexdigit b) (list_all is_ascii_hexdigit cs))
+
+pub none_there : {A : Type 0} (o : Option A) → false ≡ is_some o → None ≡ o
+none_there None none = refl
+none_there (Some x) none = cc none
 
 pub hex_law : (w : List ℕ) → ReadsHex w (hex_bytes w)
 hex_law w =

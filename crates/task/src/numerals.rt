@@ -1,8 +1,8 @@
 // Words that stand for a number or for bytes.
-ghost use Rattle.std.specs.Prelude.{◌≡◌, IfOk, vec_items};
+ghost use Rattle.std.specs.Prelude.{◌≡◌, None, Ok, IfOk, is_some, vec_items};
 ghost use Rattle.std.specs.Option.{option_map};
 ghost use Rattle.task.specs.Laws.{ReadsHex};
-ghost use Rattle.task.specs.Text.{hex_bytes, longer, number};
+ghost use Rattle.task.specs.Text.{hex_bytes, hex_pairs, longer, number};
 
 use std::alloc::{AllocError, Global};
 
@@ -24,14 +24,26 @@ fn longer(value: u64, byte: u8) -> Option<u64>
     value.checked_mul(10)?.checked_add(u64::from(digit))
 }
 
-// The bytes that a word writes in hex, two digits for each; `-` writes none.
+// Whether the word is pairs of hex digits.
+fn is_hex(word: &[u8]) -> bool
+    ensures { result ≡ is_some (hex_pairs word.now) }
+{
+    word.len() % 2 == 0 && word.iter().all(|byte| byte.is_ascii_hexdigit())
+}
+
+// The bytes that a word writes in hex, two digits for each; `-` writes none. A word that writes
+// none at all is refused before memory is asked for.
 #[tactic(auto, using(crate::proofs::Hex::hex_law))]
 pub fn hex_bytes(heap: Global, word: &[u8]) -> Result<Option<Vec<u8>>, AllocError>
     ensures value { IfOk result (λ o. option_map vec_items o ≡ hex_bytes word.now) }
     ensures law { ReadsHex word.now (hex_bytes word.now) }
+    ensures refused { hex_bytes word.now ≡ None → result ≡ Ok None }
 {
     if word == b"-".as_slice() {
         return Ok(Some(Vec::new(heap)));
+    }
+    if !is_hex(word) {
+        return Ok(None);
     }
     let mut bytes = vec![in heap; 0; word.len() / 2]?;
     let read = hex::decode_to_slice(word, bytes.as_mut_slice());
