@@ -15,6 +15,11 @@ abbrev pub provided : {A : Type 0} → Bool → Refusal → Answer A → Answer 
 provided true c a = a
 provided false c a = refused c
 
+-- The same answer, of another value.
+abbrev pub answer_as : {A B : Type 0} → (A → B) → Answer A → Answer B
+answer_as f (given x) = given (f x)
+answer_as f (refused c) = refused c
+
 -- What a Result says: the meaning of its value, or that of its error.
 abbrev pub answer : {A B E : Type 0} → (A → B) → (E → Refusal) → Result A E → Answer B
 answer f why (Ok x) = given (f x)

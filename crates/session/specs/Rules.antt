@@ -5,7 +5,7 @@ use Rattle.lattice.specs.Faults.{shape_refusal}
 use Rattle.lattice.specs.Grid.{Extent}
 use Rattle.lattice.specs.Shapes.{shape_answer}
 use Rattle.partitions.specs.Partitions.{partitions_extent}
-use Rattle.refusal.specs.Refusals.{Answer, Refusal, given, refused}
+use Rattle.refusal.specs.Refusals.{Answer, Refusal, answer_as}
 use Rattle.sources.specs.Readings.{counter_says}
 use Rattle.sources.specs.Sources.{Reading}
 use Rattle.sources.specs.SplitMix.{counter_reading}
@@ -33,10 +33,6 @@ rule_of (rule.Sets k) = set_rule (rule_extent k)
 abbrev pub rule_refusal : RuleFault → Refusal
 rule_refusal (fault.Spins e) = spins_refusal e
 rule_refusal (fault.Shape e) = shape_refusal e
-
-abbrev pub answer_as : {A B : Type 0} → (A → B) → Answer A → Answer B
-answer_as f (given x) = given (f x)
-answer_as f (refused c) = refused c
 
 -- The rule that a request gives, or its refusal. The cap of spins and sets is 1.
 abbrev pub SpinsAnswers : (rows columns : ℕ) → List ℕ → Answer Rule → Type 0

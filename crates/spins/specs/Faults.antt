@@ -1,6 +1,6 @@
 -- The refusals of threshold tables and of rules made from numbers.
 use Rattle.std.specs.Prelude.{◌≡◌, ℕ, ◌-◌, ◌^◌, ◌<◌, ◌≤◌, ◌⊎◌, List, [], ◌∷◌, slice_index}
-use Rattle.refusal.specs.Refusals.{Refusal, Answer, given, refused, numbered}
+use Rattle.refusal.specs.Refusals.{Refusal, Answer, answer_as, given, refused, numbered}
 use Rattle.lattice.specs.Faults.{shape_refusal}
 use Rattle.lattice.specs.Grid.{Extent}
 use Rattle.spins.specs.Table.{Rises}
@@ -29,8 +29,7 @@ TableAnswers values (refused c) = (i : ℕ) × (i < 9) × Rises values i × Faul
 
 -- A rule is made from the answer for its sides and cap, and then from that for its table.
 abbrev pub with_table : List ℕ → Answer Extent → Answer (Extent × List ℕ)
-with_table table (given e) = given (e, table)
-with_table table (refused c) = refused c
+with_table table = answer_as (λ e. (e, table))
 
 abbrev pub RuleAnswers : Answer Extent → List ℕ → Answer (Extent × List ℕ) → Type 0
 RuleAnswers (refused c) values a = a ≡ refused c
