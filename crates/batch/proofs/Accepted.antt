@@ -3,6 +3,7 @@ use Rattle.std.proofs.Common.{◌≡◌, ℕ, ◌<◌, Bool, true, false, ◌&&�
 use Rattle.std.proofs.lemmas.Bool.{and_from, and_parts, le-leb, leb-true, lt-ltb, ltb-true}
 use Rattle.coupling.specs.Lead.{Ends, apart_at, met_in, outcome}
 use Rattle.coupling.specs.Windows.{CanFill, draw_place, window_words}
+use Rattle.refusal.proofs.Provided.{passed}
 use Rattle.refusal.specs.Refusals.{Answer, Refusal, given, refused, provided}
 use Rattle.sources.specs.Sources.{has_place}
 use Rattle.batch.specs.Machine.{Draw, Machine, met_draw, open_draw, with_out}
@@ -13,10 +14,6 @@ pub record Accepted (s : Setting) (m : Machine) (st : DrawAndStates) (T : ℕ) :
   pub own : owned s st ≡ true
   pub larger : st.draw.tried < T
   pub fills : CanFill s.source m.stretch st.draw.number T
-
-passed : {A : Type 0} (b : Bool) (c : Refusal) (a : Answer A) (x : A) → given x ≡ provided b c a → (b ≡ true) × (given x ≡ a)
-passed true c a x e = (refl, e)
-passed false c a x e = cc
 
 had : (number T v : ℕ) (b : Bool) (c : Refusal) (ws all : List ℕ) → given ws ≡ read_for number T (provided b c (given v)) (λ w. all) → (b ≡ true) × (ws ≡ all)
 had number T v true c ws all e = (refl, cc)

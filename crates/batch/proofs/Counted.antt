@@ -1,8 +1,7 @@
 -- Every history with its runs as tries.
-use Rattle.std.proofs.Common.{◌≡◌, ℕ, suc, ◌^◌, ◌≤◌, Bool, true, false, cond, List, [], ◌∷◌, ◌++◌, sym, refl, ap, ◌∙◌, subst, inl, inr}
+use Rattle.std.proofs.Common.{◌≡◌, ℕ, suc, ◌^◌, ◌≤◌, Bool, false, cond, List, [], ◌∷◌, ◌++◌, sym, refl, ap, ◌∙◌, subst, inl, inr}
 use Rattle.std.proofs.lemmas.Bool.{and_parts, cases_Bool, leb-true}
-use Rattle.refusal.specs.Refusals.{Refusal, given, provided}
-use Rattle.batch.specs.Histories.{Event, Has, History, event}
+use Rattle.batch.specs.Histories.{Event, History, event}
 use Rattle.batch.specs.Machine.{Machine, Out, drawn, new_machine, open_draw}
 use Rattle.batch.specs.Ends.{Two}
 use Rattle.batch.specs.Requests.{CarriesByDraw, Said, Response, said_apart, said_misplaced, states_kept}
@@ -13,16 +12,13 @@ use Rattle.batch.specs.declared.stage.Request.TheVariants.{Run}
 use Rattle.batch.proofs.Responses.{carried_stretch}
 use Rattle.batch.proofs.Tallies.{begins, new_is, tally_step}
 use Rattle.batch.proofs.Unrolled.{run_as_tries}
-
-new_range : (stretch : ℕ) (m : Machine) (b : Bool) (c : Refusal) → provided b c (given (new_machine stretch)) ≡ given m → b ≡ true
-new_range stretch m true c e = refl
-new_range stretch m false c e = cc
+use Rattle.lattice.specs.Kind.{Holds}
 
 -- the stretch is from 1 to 2^20
 in_range : (s : Setting) (es : List Event) (m : Machine) → History s es m → (1 ≤ m.stretch) × (m.stretch ≤ 2 ^ 20)
 in_range s [] m h =
-    let parts = and_parts _ _ (new_range h.0 m _ _ h.1) in
-    let same = ap (λ (x : Machine). x.stretch) (new_is m _ _ (new_machine h.0) h.1) in
+    let parts = and_parts _ _ (new_is m _ _ (new_machine h.0) h.1).0 in
+    let same = ap (λ (x : Machine). x.stretch) (new_is m _ _ (new_machine h.0) h.1).1 in
     (subst (λ (n : ℕ). 1 ≤ n) same (leb-true _ _ parts.0), subst (λ (n : ℕ). n ≤ 2 ^ 20) same (leb-true _ _ parts.1))
 in_range s (e ∷ es) m h =
     let older = in_range s es h.0 h.1 in
@@ -66,7 +62,7 @@ unrolled s (e ∷ es) m h =
     (on.0, (older.0, older.1, on.1), subst (History s on.0) same on.2, subst (Tallies on.0) same on.3)
 
 -- tries that were apart add nothing to a count that does not count these
-apart_adds_none : (p : Said → Bool) → p said_apart ≡ false → (ts gs : List Event) → ((e : Event) → Has ts e → e.response.said ≡ said_apart) → how_many p (ts ++ gs) ≡ how_many p gs
+apart_adds_none : (p : Said → Bool) → p said_apart ≡ false → (ts gs : List Event) → ((e : Event) → Holds ts e → e.response.said ≡ said_apart) → how_many p (ts ++ gs) ≡ how_many p gs
 apart_adds_none p none_Apart [] gs apart = refl
 apart_adds_none p none_Apart (e ∷ ts) gs apart =
     let here : p e.response.said ≡ false = ap p (apart e (inl refl)) ∙ none_Apart in

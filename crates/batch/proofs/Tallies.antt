@@ -2,6 +2,7 @@
 use Rattle.std.proofs.Common.{◌≡◌, ℕ, suc, max, add-one, ◌+◌, ◌<◌, Bool, true, false, List, [], ◌∷◌, Some, sym, refl, ap, ◌∙◌, subst, inl, inr, arith, rules}
 use Rattle.std.proofs.Math.Nat.{max-eq_right}
 use Rattle.coupling.specs.Lead.{Ends, apart_at, met_in, outcome}
+use Rattle.refusal.proofs.Provided.{passed, same_given}
 use Rattle.refusal.specs.Refusals.{Refusal, given, provided}
 use Rattle.batch.specs.Histories.{Event, event}
 use Rattle.batch.specs.Machine.{Draw, Machine, Out, drawn, left_after, met_draw, new_answer, new_machine, none, one_closed, one_given_up, one_opened, open_draw, with_out}
@@ -14,9 +15,8 @@ use Rattle.batch.specs.declared.stage.Request.TheVariants.{Open, Try, Run, Close
 use Rattle.batch.proofs.Accepted.{accepted_when, which}
 
 -- a new batch
-pub new_is : (m : Machine) (b : Bool) (c : Refusal) (n : Machine) → provided b c (given n) ≡ given m → n ≡ m
-new_is m true c n e = cc
-new_is m false c n e = cc
+pub new_is : (m : Machine) (b : Bool) (c : Refusal) (n : Machine) → provided b c (given n) ≡ given m → (b ≡ true) × (n ≡ m)
+new_is m b c n e = let p = passed b c (given n) m (sym e) in (p.0, same_given n m (sym p.1))
 
 -- with no draw out the counts alone are left to say
 idle_tallies : (es : List Event) (m : Machine) → m.out ≡ none → m.opened ≡ m.met + m.given_up → Counted es m → Tallies es m
@@ -24,7 +24,7 @@ idle_tallies es m free whole counts =
     record { counts = counts; idle = λ _. whole; busy = λ d out. cc; number = λ d out. cc; window = λ d out. cc; still_open = λ d out. cc; has_met = λ d out. cc }
 
 pub begins : (stretch : ℕ) (m : Machine) → new_answer stretch ≡ given m → Tallies [] m
-begins stretch m e = subst (Tallies []) (new_is m _ _ (new_machine stretch) e) (idle_tallies [] _ refl refl (record { opened = refl; met = refl; given_up = refl }))
+begins stretch m e = subst (Tallies []) (new_is m _ _ (new_machine stretch) e).1 (idle_tallies [] _ refl refl (record { opened = refl; met = refl; given_up = refl }))
 
 opened_adds : (t : Two) (x y : List ℕ) (n : Machine) (es : List Event) (m : Machine) → m.out ≡ none → Tallies es m → Tallies (event Open t (response said_opened n x y) ∷ es) (one_opened m)
 opened_adds t x y n es m free h =

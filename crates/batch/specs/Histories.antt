@@ -1,6 +1,6 @@
 -- Histories of a batch: requests one after another, each carried out on what the one before left, with one rule and one
 -- source.
-use Rattle.std.specs.Prelude.{◌≡◌, ℕ, Bool, true, false, ◌⊎◌, List, [], ◌∷◌}
+use Rattle.std.specs.Prelude.{◌≡◌, ℕ, Bool, true, false, List, [], ◌∷◌}
 use Rattle.refusal.specs.Refusals.{given}
 use Rattle.batch.specs.Ends.{Two}
 use Rattle.batch.specs.Machine.{Machine, new_answer}
@@ -21,11 +21,6 @@ event request states response = record { request = request; states = states; res
 abbrev pub History : Setting → List Event → Machine → Type 0
 History s [] m = (stretch : ℕ) × (new_answer stretch ≡ given m)
 History s (e ∷ es) m = (before : Machine) × History s es before × Carries s e.states before e.request e.response × (m ≡ e.response.machine)
-
--- The event is among these.
-abbrev pub Has : List Event → Event → Type 0
-Has [] e = ⊥
-Has (f ∷ es) e = (e ≡ f) ⊎ Has es e
 
 -- Whether an answer is that of an accepted try or run.
 abbrev pub is_tried : Said → Bool

@@ -4,11 +4,12 @@ use Rattle.coupling.specs.Ends.{AllEndIn, SomeEndApart}
 use Rattle.coupling.specs.Lead.{apart_at, met_in, outcome}
 use Rattle.coupling.specs.Windows.{Agree, CanFill, window_words}
 use Rattle.sources.specs.Sources.{Reading, Sound}
-use Rattle.batch.specs.Histories.{Event, Has, History, is_tried}
+use Rattle.batch.specs.Histories.{Event, History, is_tried}
 use Rattle.batch.specs.Machine.{Draw, Machine, drawn, met_draw, open_draw}
 use Rattle.batch.specs.Requests.{said_apart, said_met}
 use Rattle.batch.specs.Tries.{Setting, setting}
 use Rattle.batch.specs.declared.stage.Request.TheVariants.{Try}
+use Rattle.lattice.specs.Kind.{Holds}
 
 -- The words of window T of a draw.
 abbrev pub words_of : Setting → (stretch : ℕ) → Draw → (T : ℕ) → List ℕ
@@ -44,7 +45,7 @@ ApartExactlyIfTwoDiffer s stretch e =
 -- if two starts differ.
 abbrev pub AnswersAreExact : Setting → Type 0
 AnswersAreExact s =
-    (es : List Event) (m : Machine) → History s es m → (e : Event) → Has es e →
+    (es : List Event) (m : Machine) → History s es m → (e : Event) → Holds es e →
     (e.response.said ≡ said_met → Sampled s m.stretch e)
     × (e.response.said ≡ said_apart → Parted s m.stretch e)
     × (is_tried e.response.said ≡ true → ApartExactlyIfTwoDiffer s m.stretch e)
@@ -57,6 +58,6 @@ abbrev pub AgreeingHistoriesSampleAlike : Setting → Type 0
 AgreeingHistoriesSampleAlike s =
     (q : Reading) → Sound q → Agree s.source q →
     (es fs : List Event) (m n : Machine) → History s es m → History (with_source s q) fs n → m.stretch ≡ n.stretch →
-    (e f : Event) → Has es e → Has fs f → e.response.said ≡ said_met → f.response.said ≡ said_met →
+    (e f : Event) → Holds es e → Holds fs f → e.response.said ≡ said_met → f.response.said ≡ said_met →
     (c d : Draw) → e.response.machine.out ≡ met_draw c → f.response.machine.out ≡ met_draw d → c.number ≡ d.number →
     e.response.low ≡ f.response.low

@@ -1,13 +1,14 @@
 -- What the counts of a batch count, and how a run counts as its tries.
 use Rattle.std.specs.Prelude.{◌≡◌, ℕ, ◌+◌, ◌<◌, max, Bool, true, false, cond, ◌⊎◌, List, [], ◌∷◌, ◌++◌, length, Some}
 use Rattle.std.specs.List.{filter}
-use Rattle.batch.specs.Histories.{Event, Has, History, is_tried}
+use Rattle.batch.specs.Histories.{Event, History, is_tried}
 use Rattle.batch.specs.Machine.{Draw, Machine, drawn, met_draw, none, open_draw}
 use Rattle.batch.specs.Requests.{Said, Response, said_apart, said_closed, said_given_up, said_met, said_misplaced, said_opened}
 use Rattle.batch.specs.Runs.{Doubled}
 use Rattle.batch.specs.Tries.{Setting}
 use Rattle.batch.specs.declared.stage.Request.{Request}
 use Rattle.batch.specs.declared.stage.Request.TheVariants.{Try, Run}
+use Rattle.lattice.specs.Kind.{Holds}
 
 -- Whether an answer is that of an accepted open, of a close, of a give-up.
 abbrev pub is_opened : Said → Bool
@@ -70,11 +71,11 @@ pub record Tallies (es : List Event) (m : Machine) : Type 0 where
 
 -- A try of this window is among the events.
 abbrev pub TriedIn : List Event → ℕ → Type 0
-TriedIn es T = (e : Event) × Has es e × (e.request ≡ Try T)
+TriedIn es T = (e : Event) × Holds es e × (e.request ≡ Try T)
 
 -- The tries of all doubled windows below T, each of them apart, and nothing else.
 pub record DoubledTries (stretch tried T : ℕ) (es : List Event) : Type 0 where
-  pub each : (e : Event) → Has es e → (U : ℕ) × (e.request ≡ Try U) × Doubled stretch tried U × (U < T) × (e.response.said ≡ said_apart)
+  pub each : (e : Event) → Holds es e → (U : ℕ) × (e.request ≡ Try U) × Doubled stretch tried U × (U < T) × (e.response.said ≡ said_apart)
   pub all : (U : ℕ) → Doubled stretch tried U → U < T → TriedIn es U
 
 -- The tries of a run, the last first: that one was of a doubled window or of the stretch, and ended as the run did.
