@@ -98,6 +98,7 @@ law_from w None e other = λ bytes small writes. elim writes [
 ]
 law_from w (Some bytes) e other = inl (pairs_write w bytes e)
 
+-- Which bytes are digits, and which words pairs of digits.
 digit_there : (c : ℕ) → is_some (hex_digit c) ≡ is_ascii_hexdigit c
 digit_there c = grind (arith, nat_tests)
 
@@ -106,7 +107,6 @@ both_there f None y = refl
 both_there f (Some x) None = refl
 both_there f (Some x) (Some y) = refl
 
--- An even number of bytes are pairs of digits where each is one.
 pub even_pairs : (w : List ℕ) → length w % 2 ≡ 0 → is_some (hex_pairs w) ≡ list_all is_ascii_hexdigit w
 even_pairs [] even = refl
 even_pairs (a ∷ []) even = absurd (omega arith)

@@ -1,5 +1,6 @@
 -- How the text of a task is read: its words, its numbers, bytes in hex, and paths.
-use Rattle.std.specs.Prelude.{ℕ, ◌+◌, ◌-◌, ◌*◌, ◌^◌, Bool, true, false, cond, not, ◌&&◌, ◌||◌, List, [], ◌∷◌, reverse, length, Some, None, codes, filter, Option, ◌==◌, nat_le, nat_lt}
+use Rattle.std.specs.Prelude.{ℕ, ◌+◌, ◌-◌, ◌*◌, ◌^◌, Bool, true, false, cond, not, ◌&&◌, ◌||◌, List, [], ◌∷◌, reverse, length, Some, None, codes, filter, Option, ◌==◌, nat_lt}
+use Rattle.std.specs.Int.{is_in_range}
 use Rattle.std.specs.Str.{bytes_eq}
 use Rattle.task.specs.declared.words.Words.{Words}
 
@@ -49,12 +50,9 @@ after_word bs = past solid (past blank bs)
 abbrev pub left : Words → List ℕ
 left ws = ws.rest.now
 
-abbrev pub from_to : ℕ → ℕ → ℕ → Bool
-from_to low high b = nat_le low b && nat_le b high
-
 abbrev pub all_digits : List ℕ → Bool
 all_digits [] = true
-all_digits (b ∷ bs) = from_to 48 57 b && all_digits bs
+all_digits (b ∷ bs) = is_in_range 48 57 b && all_digits bs
 
 -- What decimal digits are worth: a digit with n digits behind it counts 10 ^ n times.
 abbrev pub worth : List ℕ → ℕ
@@ -63,7 +61,7 @@ worth (b ∷ bs) = (b - 48) * 10 ^ length bs + worth bs
 
 -- The number with one more digit behind it.
 abbrev pub longer : ℕ → ℕ → Option ℕ
-longer n b = cond (from_to 48 57 b && nat_lt (n * 10 + (b - 48)) (2 ^ 64)) (Some (n * 10 + (b - 48))) None
+longer n b = cond (is_in_range 48 57 b && nat_lt (n * 10 + (b - 48)) (2 ^ 64)) (Some (n * 10 + (b - 48))) None
 
 -- The number that a word of digits writes, where 64 bits have room for it.
 abbrev pub number : List ℕ → Option ℕ
@@ -72,7 +70,7 @@ number w = cond (some w && (all_digits w && nat_lt (worth w) (2 ^ 64))) (Some (w
 -- The value of a hex digit of either case.
 abbrev pub hex_digit : ℕ → Option ℕ
 hex_digit b =
-    cond (from_to 48 57 b) (Some (b - 48)) (cond (from_to 97 102 b) (Some (b - 87)) (cond (from_to 65 70 b) (Some (b - 55)) None))
+    cond (is_in_range 48 57 b) (Some (b - 48)) (cond (is_in_range 97 102 b) (Some (b - 87)) (cond (is_in_range 65 70 b) (Some (b - 55)) None))
 
 -- What two values make, where both are there.
 abbrev pub both : {A B C : Type 0} → (A → B → C) → Option A → Option B → Option C

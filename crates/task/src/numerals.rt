@@ -31,8 +31,8 @@ fn is_hex(word: &[u8]) -> bool
     word.len() % 2 == 0 && word.iter().all(|byte| byte.is_ascii_hexdigit())
 }
 
-// The bytes that a word writes in hex, two digits for each; `-` writes none. A word that writes
-// none at all is refused before memory is asked for.
+// The bytes that a word writes in hex, two digits for each; `-` writes none. Any other
+// word is refused before memory is asked for.
 #[tactic(auto, using(crate::proofs::Hex::hex_law))]
 pub fn hex_bytes(heap: Global, word: &[u8]) -> Result<Option<Vec<u8>>, AllocError>
     ensures value { IfOk result (λ o. option_map vec_items o ≡ hex_bytes word.now) }
