@@ -1,5 +1,5 @@
-// Carries out a task: a rule, then a source, then what is asked of both. What is decided, and what the lines say, is in
-// the other modules; here it is read, handed on and written.
+// Carries out a task from its first line to its stretch: the rule, the source, and what is asked before there is a batch.
+// A task that stops before its end is answered with the line at which it did.
 ghost use Rattle.std.specs.Prelude.{◌≡◌, IsUtf8, MatchResult};
 
 use crate::batches::Work;
