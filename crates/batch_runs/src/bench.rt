@@ -71,8 +71,7 @@ impl<'a> Bench<'a> {
     fn call(&mut self, outcome: Outcome<NoWord>, call: Call) -> Outcome<NoWord> {
         let draw = match outcome {
             Outcome::Met(draw) => return Outcome::Met(draw),
-            Outcome::Apart(draw) => draw,
-            Outcome::Refused(draw, _) => draw,
+            Outcome::Apart(draw) | Outcome::Refused(draw, _) => draw,
         };
         let setting = Setting {
             rule: &self.rule,

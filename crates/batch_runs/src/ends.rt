@@ -15,8 +15,7 @@ pub fn end(outcome: Outcome<NoWord>, token: Token) -> Batch
 {
     match outcome {
         Outcome::Met(draw) => MetDraw::close(draw, token),
-        Outcome::Apart(draw) => end_apart(draw, token),
-        Outcome::Refused(draw, _) => end_apart(draw, token),
+        Outcome::Apart(draw) | Outcome::Refused(draw, _) => end_apart(draw, token),
     }
 }
 

@@ -106,10 +106,5 @@ fn perform<R: Read + Drop>(
     reader: BufReader<R>,
 ) -> Result<(), Failure> {
     let mut lines = Lines::new(rt.alloc(), reader);
-    carry_out_showing(rt, &mut lines, &mut rt.stdout(), progress).map_err(|trouble| {
-        Failure::Stopped(Stopped {
-            line: lines.line_number(),
-            trouble,
-        })
-    })
+    carry_out_showing(rt, &mut lines, &mut rt.stdout(), progress).map_err(Failure::Stopped)
 }

@@ -6,7 +6,8 @@ use partitions::rule::Partitions;
 use spins::rule::Spins;
 use spins::thresholds::Thresholds;
 
-const FLAT: [u64; 9] = [0; 9];
+// A table with all thresholds 0.
+pub const FLAT: [u64; 9] = [0; 9];
 
 // The largest threshold.
 const TOP: u64 = 1 << 32;

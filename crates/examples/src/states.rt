@@ -1,10 +1,9 @@
 // States: which belong to a rule, and loading cells.
+use crate::rules::FLAT;
 use crate::say::{accepted, say};
 use lattice::kind::Kind;
 use spins::rule::Spins;
 use task::answers::numbers_line;
-
-const FLAT: [u64; 9] = [0; 9];
 
 pub fn show(rt: &HostRuntime) -> anyhow::Result<()> {
     let square = accepted(Spins::from_numbers(2, 2, 1, FLAT))?;

@@ -9,7 +9,7 @@ use crate::drawable::Drawable;
 use crate::requests::{Draws, requested};
 use crate::stage::Stage as TaskStage;
 use crate::trouble::Trouble;
-use batch::draws::Batch;
+use batch::draws::{Batch, Tally};
 use batch::ends::Ends;
 use batch::setting::Setting;
 use batch::stage::{Reply, Request, Stage};
@@ -66,6 +66,10 @@ impl<R: Read + Drop, W: Write> Console<'_, '_, '_, R, W> {
         self.say(batch_line(self.rt.alloc(), batch)?)
     }
 
+    fn say_tally(&mut self, tally: Tally) -> Result<(), Trouble> {
+        self.say(tally_line(self.rt.alloc(), tally)?)
+    }
+
     fn say_end(&mut self, stage: Stage) -> Result<(), Trouble> {
         self.say(end_lines(self.rt.alloc(), stage)?)
     }
@@ -95,33 +99,25 @@ impl<R: Read + Drop, W: Write> Console<'_, '_, '_, R, W> {
         stage: Stage,
         directive: Directive,
     ) -> Result<Stage, Halted> {
-        if let Some(request) = requested(&directive) {
-            let (stage, _) = self.ask(work, stage, request)?;
-            return Ok(stage);
-        }
-        if let Directive::Draws(count) = directive {
-            let drawn = self.make_draws(work, stage, count);
-            self.progress.end(self.rt);
-            return drawn;
-        }
-        let said = self.say_asked(work, &stage, directive);
-        let (stage, ()) = halting(stage, said)?;
-        Ok(stage)
-    }
-
-    // Prints what a directive asks for that changes nothing.
-    fn say_asked<K: Drawable, S: Source>(
-        &mut self,
-        work: &Work<K, S>,
-        stage: &Stage,
-        directive: Directive,
-    ) -> Result<(), Trouble> {
-        match directive {
+        let said = match directive {
+            Directive::Draws(count) => {
+                let drawn = self.make_draws(work, stage, count);
+                self.progress.end(self.rt);
+                return drawn;
+            }
             Directive::Trace(back) => self.say_moves(&work.setting, back),
             Directive::States => self.say_states(work.setting.rule, &work.ends),
-            Directive::Tally => self.say(tally_line(self.rt.alloc(), stage.tally())?),
-            _ => Err(Trouble::Misplaced),
-        }
+            Directive::Tally => self.say_tally(stage.tally()),
+            _ => match requested(&directive) {
+                Some(request) => {
+                    let (stage, _) = self.ask(work, stage, request)?;
+                    return Ok(stage);
+                }
+                None => Err(Trouble::Misplaced),
+            },
+        };
+        let (stage, ()) = halting(stage, said)?;
+        Ok(stage)
     }
 
     // Carries out the requests of a directive `draws`.

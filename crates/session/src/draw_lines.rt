@@ -1,4 +1,4 @@
-// The lines about draws, newlines included.
+// Makes the lines of a batch: its stretch, its tally, both states, the answer to a request, and how the last draw ends.
 ghost use Rattle.std.specs.Prelude.{◌≡◌, [], ◌∷◌, ◌++◌, IfOk, string_bytes, MatchResult};
 ghost use Rattle.batch.specs.Meanings.{batch_machine, drawn_says, tally_says};
 ghost use Rattle.batch.specs.Stages.{said_by, stage_machine};
@@ -44,15 +44,7 @@ pub(crate) fn states_lines<K: Kind>(
 {
     let first = cells_line(heap, rule, "low", &ends.low)?;
     let second = cells_line(heap, rule, "high", &ends.high)?;
-    both(first, second.as_str())
-}
-
-// One text behind the other.
-fn both(mut first: String, second: &str) -> Result<String, StateFault>
-    ensures { MatchResult result (λ t. string_bytes t ≡ string_bytes first ++ second.now) (λ e. e ≡ StateFault.Memory) }
-{
-    first.push_str(second)?;
-    Ok(first)
+    Ok(format!(in heap; "{first}{second}")?)
 }
 
 // The draw that a request was about: the one that is out after it, or else the one that was out before.
@@ -76,8 +68,7 @@ pub(crate) fn answer_lines<K: Kind, F: Cause + Drop>(
         return Ok(None);
     };
     let states = state_part(heap, rule, reply, ends)?;
-    let lines = both(head, states.as_str())?;
-    Ok(Some(lines))
+    Ok(Some(format!(in heap; "{head}{states}")?))
 }
 
 // The first line of an answer.
@@ -146,7 +137,7 @@ pub(crate) fn end_lines(heap: Global, stage: Stage) -> Result<String, AllocError
 fn ended_lines(heap: Global, head: &str, number: u32, tally: Tally) -> Result<String, AllocError>
     ensures { IfOk result (λ t. string_bytes t ≡ printed head.now (number ∷ []) ++ tally_line (tally_says tally)) }
 {
-    let mut lines = whole_line(heap, head, &[u64::from(number)])?;
-    lines.push_str(tally_line(heap, tally)?.as_str())?;
-    Ok(lines)
+    let ended = whole_line(heap, head, &[u64::from(number)])?;
+    let tally = tally_line(heap, tally)?;
+    format!(in heap; "{ended}{tally}")
 }

@@ -78,8 +78,7 @@ impl<R: Read + Drop> Lines<R> {
         let _ = self.reader.read_until(b'\n', &mut bytes)?;
         let line = line_of(bytes);
         if line.is_some() {
-            let count = &mut self.count;
-            *count = count.saturating_add(1);
+            self.count = self.count.saturating_add(1);
         }
         Ok(line)
     }

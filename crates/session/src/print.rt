@@ -1,4 +1,5 @@
-// The lines of a task's answers, newline included.
+// Makes the lines that need no batch: of a rule, a source, a refusal, the cells of a state, and a move. Each ends with a
+// newline.
 ghost use Rattle.std.specs.Prelude.{◌≡◌, IfOk, vec_items, string_bytes};
 ghost use Rattle.lattice.specs.Faults.{state_refusal};
 ghost use Rattle.refusal.specs.Refusals.{answer};
@@ -92,9 +93,8 @@ pub(crate) fn move_lines<K: Kind>(
     ensures { TellsOwn (K.extent rule.now) (K.carried state.now) (move_lines step (K.cells state.now)) (answer string_bytes state_refusal result) }
 {
     let after = cells_line(heap, rule, "state", state)?;
-    let mut lines = move_line(heap, step)?;
-    lines.push_str(after.as_str())?;
-    Ok(lines)
+    let moved = move_line(heap, step)?;
+    Ok(format!(in heap; "{moved}{after}")?)
 }
 
 // A move, without the state that it leaves.

@@ -1,5 +1,5 @@
-// Carries out a task: a rule, then a source, then what is asked of both. What is decided, and what the lines say, is in
-// the other modules; here it is read, handed on and written.
+// Carries out a task from its first line to its stretch: the rule, the source, and what is asked before there is a batch.
+// A task that stops before its end is answered with the line at which it did.
 ghost use Rattle.std.specs.Prelude.{◌≡◌, IsUtf8, MatchResult};
 
 use crate::batches::Work;
@@ -10,7 +10,7 @@ use crate::print::{rule_line, source_line};
 use crate::progress::Progress;
 use crate::rules::{AnyRule, SourceGiven, given_rule, given_source};
 use crate::stage::Stage;
-use crate::trouble::Trouble;
+use crate::trouble::{Stopped, Trouble};
 use batch::ends::Ends;
 use batch::setting::Setting;
 use sources::recording::Recording;
@@ -24,7 +24,7 @@ pub fn carry_out<R: Read + Drop, W: Write>(
     rt: &HostRuntime,
     lines: &mut Lines<R>,
     out: &mut W,
-) -> Result<(), Trouble> {
+) -> Result<(), Stopped> {
     carry_out_showing(rt, lines, out, Progress::Hidden)
 }
 
@@ -34,14 +34,17 @@ pub fn carry_out_showing<R: Read + Drop, W: Write>(
     lines: &mut Lines<R>,
     out: &mut W,
     progress: Progress,
-) -> Result<(), Trouble> {
+) -> Result<(), Stopped> {
     let mut console = Console {
         rt,
-        lines,
+        lines: &mut *lines,
         out,
         progress,
     };
-    console.from_start()
+    console.from_start().map_err(|trouble| Stopped {
+        line: lines.line_number(),
+        trouble,
+    })
 }
 
 // A path as text.

@@ -4,7 +4,6 @@
 
 use session::input::Lines;
 use session::stages::carry_out;
-use session::trouble::Stopped;
 use std::io::{BufReader, Write};
 use std::{fs, io};
 
@@ -27,11 +26,7 @@ fn main(rt: HostRuntime) -> io::Result<()> {
 fn answers(rt: &HostRuntime, task: &[u8]) -> io::Result<Vec<u8>> {
     let mut out = Vec::new(rt.alloc());
     let mut lines = Lines::new(rt.alloc(), BufReader::new(rt.alloc(), task)?);
-    if let Err(trouble) = carry_out(rt, &mut lines, &mut out) {
-        let stopped = Stopped {
-            line: lines.line_number(),
-            trouble,
-        };
+    if let Err(stopped) = carry_out(rt, &mut lines, &mut out) {
         writeln!(out, "{stopped}")?;
     }
     Ok(out)
