@@ -109,9 +109,7 @@ fn height_text(
 }
 
 pub fn refusal_text<C: Cause>(heap: Global, cause: &C) -> Result<String, AllocError> {
-    let mut numbers = Vec::new(heap);
-    cause.tell(&mut numbers)?;
-    numbers_line(heap, "refused", numbers.as_slice())
+    numbers_line(heap, "refused", cause.numbers(heap)?.as_slice())
 }
 
 // What a call gives that is not to be refused.

@@ -16,8 +16,7 @@ pub fn say<T: Drop, E: Cause + Drop>(
 }
 
 pub fn say_refused<E: Cause>(rt: &HostRuntime, what: &str, cause: &E) -> anyhow::Result<()> {
-    let mut numbers = Vec::new(rt.alloc());
-    cause.tell(&mut numbers)?;
+    let numbers = cause.numbers(rt.alloc())?;
     let line = numbers_line(rt.alloc(), "refused", numbers.as_slice())?;
     println!(rt; "{what}: {line}")?;
     Ok(())

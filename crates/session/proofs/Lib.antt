@@ -1,4 +1,3 @@
-mod Answers
 mod Fewer
 mod Hex
 mod Traces

@@ -6,10 +6,10 @@ use Rattle.lattice.specs.Kind.{Meaning}
 use Rattle.refusal.specs.Refusals.{given}
 use Rattle.sources.specs.Sources.{Reading, has_place, word_answer}
 use Rattle.session.specs.Traces.{end_of}
-use Rattle.session.proofs.Answers.{given_provided, same_given}
+use Rattle.refusal.proofs.Provided.{passed, same_given}
 
 word_given : (r : Reading) (place w : ℕ) → given w ≡ word_answer r place → w ≡ r.word place
-word_given r place w e = same_given w (r.word place) (given_provided (has_place r place) _ w (given (r.word place)) e)
+word_given r place w e = same_given w (r.word place) (passed (has_place r place) _ (given (r.word place)) w e).1
 
 place_of : (n : ℕ) → draw_place 0 0 n ≡ n
 place_of n = omega arith

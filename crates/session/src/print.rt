@@ -28,8 +28,7 @@ pub(crate) fn whole_line(heap: Global, head: &str, numbers: &[u64]) -> Result<St
 pub(crate) fn refused_line<C: Cause>(heap: Global, cause: &C) -> Result<Option<String>, AllocError>
     ensures { IfOk result (λ o. option_map string_bytes o ≡ refused_line (C.refusal cause.now)) }
 {
-    let mut numbers = Vec::new(heap);
-    cause.tell(&mut numbers)?;
+    let numbers = cause.numbers(heap)?;
     if numbers.is_empty() {
         return Ok(None);
     }

@@ -6,13 +6,13 @@ use Rattle.lattice.specs.declared.fault.StateFault.TheVariants.{Foreign}
 use Rattle.lattice.proofs.Extents.{agree_same}
 use Rattle.refusal.specs.Refusals.{Refusal, given, provided}
 use Rattle.std.proofs.lemmas.List.{take_all, take_more}
-use Rattle.session.proofs.Answers.{given_provided, same_given}
+use Rattle.refusal.proofs.Provided.{passed, same_given}
 use Rattle.session.proofs.print.cell_values.Goals as goal
 
 -- the cell that is answered is the state's
 cell_given : (rule state : Extent) (cells : List ℕ) (i v : ℕ) → given v ≡ cell_answer rule state cells i → v ≡ get_or cells i 0
 cell_given rule state cells i v e =
-    same_given v (get_or cells i 0) (given_provided (ltb i (cell_count rule)) _ v _ (given_provided (agree rule state) _ v _ e))
+    same_given v (get_or cells i 0) (passed (ltb i (cell_count rule)) _ _ v (passed (agree rule state) _ _ v e).1).1
 
 -- one cell more
 more : (cells before after : List ℕ) (i v w : ℕ) → i < length cells → after ≡ before ++ w ∷ [] → w ≡ v → v ≡ get_or cells i 0 → before ≡ take i cells → after ≡ take (i + 1) cells
