@@ -1,7 +1,7 @@
 -- Equal shares: a list that meets in a state leads every start there, and one that is apart leads at most all of them.
 use Rattle.std.proofs.Common.{◌≡◌, ℕ, ◌+◌, ◌*◌, ◌≤◌, cond, List, length, refl, ap, ◌∙◌, arith}
-use Rattle.std.proofs.lemmas.Bool.{cond_both}
 use Rattle.std.specs.Str.{bytes_eq}
+use Rattle.lattice.proofs.Cells.{bit_upto}
 use Rattle.lattice.specs.Counts.{Exchanges, same_as}
 use Rattle.lattice.specs.Kind.{Distinct, Meaning}
 use Rattle.coupling.specs.Lead.{Ends, Words, apart_at, lead, met_in, outcome}
@@ -12,7 +12,7 @@ use Rattle.coupling.proofs.Stationary.{lists_to}
 use Rattle.coupling.proofs.Sums.{lists_add, lists_le, lists_over, lists_times, over, over_constant, over_le, over_same}
 
 at_most_one : (x y : List ℕ) → same_as x y ≤ 1
-at_most_one x y = cond_both (bytes_eq x y) 1 0 (λ n. n ≤ 1) (λ e. omega arith) (λ e. omega arith)
+at_most_one x y = bit_upto (bytes_eq x y)
 
 module _ (m : Meaning) (laws : Laws m) (x : List ℕ) where
   -- how many lawful starts the words lead to x

@@ -1,5 +1,5 @@
 -- Independent sets keep the laws of a kind and the exchange law, whatever their sides.
-use Rattle.std.specs.Prelude.{◌≡◌, ℕ, ◌+◌, ◌-◌, ◌^◌, ◌<◌, ◌≤◌, Bool, true, false, cond, not, ltb, List, ◌++◌, length, take, set, replicate, nat_lt, slice_index, slice_index_or, slice_set, refl}
+use Rattle.std.specs.Prelude.{◌≡◌, ℕ, ◌+◌, ◌-◌, ◌^◌, ◌<◌, ◌≤◌, Bool, true, false, cond, not, ltb, List, length, take, set, replicate, nat_lt, slice_index, slice_index_or, slice_set, refl}
 use Rattle.std.proofs.Common.{⊎_elim, sym, ap, ◌∙◌, le_refl, arith}
 use Rattle.std.proofs.ByRecursion.{All-weaker}
 use Rattle.std.proofs.lemmas.List.{ext_get_or, get_or_append_left, get_or-append_right, get_or_past, get_or-set_other, get_or-take, length-set, length-take-le, set-get_or, set-set, take_at}
@@ -9,17 +9,13 @@ use Rattle.lattice.specs.Grid.{Extent, cell_count}
 use Rattle.lattice.specs.Kind.{Bounded, Closed, Distinct, FirstBad, Lawful, Monotone, Ordered, Sized}
 use Rattle.lattice.specs.Lists.{value_lists}
 use Rattle.lattice.specs.Words.{level, middle_level, site}
-use Rattle.lattice.proofs.Cells.{all_upto, append_upto, begins_same, filled_up, positive_within, replicate_upto, set_upto, take_upto, upto_all}
+use Rattle.lattice.proofs.Cells.{all_upto, append_upto, begins_same, bit_upto, filled_up, front, positive_within, replicate_upto, set_upto, take_upto, upto_all}
 use Rattle.lattice.proofs.Halves.{Undo, exchanges}
 use Rattle.lattice.proofs.Listed.{kept_holds, kept_once, kept_parts, listed, listed_once, listed_parts}
 use Rattle.independent_sets.specs.Independent.{checkerboard, clear, fill, free, independent, independent_sets, may_follow, white}
 use Rattle.independent_sets.specs.Apart.{Apart, apart_from, follow_apart, follow_upto, free_at, free_from, from_apart, set_apart, stops_parts}
 use Rattle.independent_sets.specs.Beside.{neighbour_apart, neighbour_other}
 use Rattle.independent_sets.specs.Checkerboards.{Turned, checkerboard_upto, checkerwise_set, coloured, coloured_apart, coloured_bits, length_checkerboard, turned_along, turned_same, turned_sets, upto_checkerboard, when_from}
-
-bit_upto : (t : Bool) → cond t 1 0 ≤ 1
-bit_upto true = omega arith
-bit_upto false = omega arith
 
 bit_rises : (s t : Bool) → (s ≡ true → t ≡ true) → cond s 1 0 ≤ cond t 1 0
 bit_rises true t h = rw (h refl) (omega arith)
@@ -119,9 +115,6 @@ module _ (e : Extent) where
       (p.0, All-weaker (λ v. v ≤ 1) (λ v. v < 2 ^ 1) (λ v k. omega arith) x p.1)
 
   -- the cells before one, and empty ones after them
-  abbrev front : List ℕ → ℕ → List ℕ
-  front x i = take i x ++ replicate (length x - i) 0
-
   front_same : (x : List ℕ) (i : ℕ) → i ≤ length x → (k : ℕ) → 0 < slice_index (front x i) k → (k < i) × (slice_index (front x i) k ≡ slice_index x k)
   front_same x i long k occupied =
       let size = length-take-le i x long in

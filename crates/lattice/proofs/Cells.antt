@@ -1,5 +1,5 @@
 -- Lists of cells whose values keep below a bound, and the order cell by cell.
-use Rattle.std.proofs.Common.{◌≡◌, ℕ, zero, suc, ◌-◌, ◌<◌, ◌≤◌, true, false, ltb, Some, List, [], ◌∷◌, ◌++◌, length, get_or, take, set, replicate, sym, ap, ◌∙◌, ⊎_elim, le_refl, le_trans, arith}
+use Rattle.std.proofs.Common.{◌≡◌, ℕ, zero, suc, ◌-◌, ◌<◌, ◌≤◌, Bool, true, false, cond, ltb, Some, List, [], ◌∷◌, ◌++◌, length, get_or, take, set, replicate, sym, ap, ◌∙◌, ⊎_elim, le_refl, le_trans, arith}
 use Rattle.std.specs.List.{AllByRecursion, position, position_or_len}
 use Rattle.std.proofs.lemmas.Bool.{cases_Bool, cases_lt, cond-true, ltb-false}
 use Rattle.std.proofs.lemmas.List.Sums.{fails_before_first}
@@ -25,6 +25,11 @@ none_above x b none k =
     (cases_lt k (length x)))
     (cases_Bool (ltb first (length x)))
 
+-- 1 or 0
+pub bit_upto : (t : Bool) → cond t 1 0 ≤ 1
+bit_upto true = omega arith
+bit_upto false = omega arith
+
 pub replicate_upto : (n v b i : ℕ) → v ≤ b → get_or (replicate n v) i 0 ≤ b
 replicate_upto zero v b i h = omega arith
 replicate_upto (suc n) v b zero h = h
@@ -48,8 +53,11 @@ take_upto [] (suc i) b each k = omega arith
 take_upto (a ∷ x) (suc i) b each zero = each zero (omega arith)
 take_upto (a ∷ x) (suc i) b each (suc k) = take_upto x i b (λ j h. each (suc j) (omega arith)) k
 
--- the first cells of a list, and as many more as it has left
-pub filled_up : (x : List ℕ) (i : ℕ) → i ≤ length x → length (take i x ++ replicate (length x - i) 0) ≡ length x
+-- the first cells of a list, and as many zeros as it has cells left
+abbrev pub front : List ℕ → ℕ → List ℕ
+front x i = take i x ++ replicate (length x - i) 0
+
+pub filled_up : (x : List ℕ) (i : ℕ) → i ≤ length x → length (front x i) ≡ length x
 filled_up x i h = rw (length-append (take i x) (replicate (length x - i) 0), length-take-le i x h, length-replicate {A = ℕ} (length x - i) 0) (omega arith)
 
 -- a list that begins as another has its values there

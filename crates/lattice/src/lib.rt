@@ -1,4 +1,4 @@
-// What every kind of state and every engine shares: the split of a word, grids and their neighbours, refusals, and the
+// What is written once for all kinds of states: the split of a word, grids and their neighbours, refusals, and the
 // interface of a kind with its laws. It knows no kind in particular.
 #![tactic(auto)]
 

@@ -1,5 +1,5 @@
 -- Plane partitions keep the laws of a kind, whatever their sides and cap.
-use Rattle.std.specs.Prelude.{◌≡◌, ℕ, ◌+◌, ◌-◌, ◌^◌, ◌<◌, ◌≤◌, true, false, cond, ltb, List, ◌++◌, length, take, replicate, Decides, ◌≢◌, nat_le, nat_lt, slice_index, slice_index_or, slice_set, refl}
+use Rattle.std.specs.Prelude.{◌≡◌, ℕ, ◌+◌, ◌-◌, ◌^◌, ◌<◌, ◌≤◌, true, false, cond, ltb, List, length, take, replicate, Decides, ◌≢◌, nat_le, nat_lt, slice_index, slice_index_or, slice_set, refl}
 use Rattle.std.proofs.Common.{⊎_elim, sym, ap, ◌∙◌, le_refl, zero-add, arith}
 use Rattle.std.specs.List.{range_with_len, list_all, AllByRecursion}
 use Rattle.std.proofs.lemmas.List.FromFn.{get_or-range_with_len, length-range_with_len}
@@ -11,7 +11,7 @@ use Rattle.lattice.specs.Grid.{Extent, cell_count}
 use Rattle.lattice.specs.Kind.{Lawful, FirstBad, Ordered, Bounded, Closed, Monotone, Distinct, Sized}
 use Rattle.lattice.specs.Lists.{value_lists}
 use Rattle.lattice.specs.Words.{level, middle_level, site}
-use Rattle.lattice.proofs.Cells.{all_upto, above_zeros, begins_same, below_replicate, cellwise_ordered, cellwise_set, filled_up, replicate_upto}
+use Rattle.lattice.proofs.Cells.{all_upto, above_zeros, begins_same, below_replicate, cellwise_ordered, cellwise_set, filled_up, front, replicate_upto}
 use Rattle.lattice.proofs.Halves.{Undo, exchanges as two_way_exchanges}
 use Rattle.lattice.proofs.Listed.{kept_holds, kept_once, kept_parts, listed, listed_once, listed_parts}
 use Rattle.partitions.specs.Heights.{Falling, falls, highest, lowest, lowered, partitions_meaning, raised}
@@ -153,9 +153,9 @@ module _ (e : Extent) where
   exchanges some = two_way_exchanges (partitions_meaning e) (raised e) (lowered e) (cell_count e) some undo (λ w x. refl)
 
   -- the first cells of falling heights, filled up with 0s
-  filled_falling : (x : List ℕ) (i : ℕ) → i ≤ length x → ((j : ℕ) → j < i → Fits x j) → Falling e (take i x ++ replicate (length x - i) 0)
+  filled_falling : (x : List ℕ) (i : ℕ) → i ≤ length x → ((j : ℕ) → j < i → Fits x j) → Falling e (front x i)
   filled_falling x i h falling k =
-      let y = take i x ++ replicate (length x - i) 0 in
+      let y = front x i in
       let size = length-take-le i x h in
       let kept : (j : ℕ) → j < i → slice_index y j ≡ slice_index_or x j 0 = λ j l. get_or_append_left (take i x) (replicate (length x - i) 0) 0 j (omega arith) ∙ get_or-take i x j 0 l in
       let zeros : i ≤ k → slice_index y k ≤ 0 = λ l. omega (arith, get_or-append_right (take i x) (replicate (length x - i) 0) i k 0 size l, replicate_upto (length x - i) 0 0 (k - i) (omega arith)) in
@@ -169,8 +169,8 @@ module _ (e : Extent) where
   first_bad x i long within falling bad = record {
     within = within;
     before = (
-      take i x ++ replicate (length x - i) 0,
-      lawful_from (take i x ++ replicate (length x - i) 0) (filled_up x i (omega arith) ∙ long) (filled_falling x i (omega arith) falling),
+      front x i,
+      lawful_from (front x i) (filled_up x i (omega arith) ∙ long) (filled_falling x i (omega arith) falling),
       take_at (take i x) (replicate (length x - i) 0) (length (take i x)) refl,
     );
     up_to = λ b.

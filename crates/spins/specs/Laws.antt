@@ -1,5 +1,5 @@
 -- Spin grids keep the laws of a kind, whatever their sides and their table.
-use Rattle.std.specs.Prelude.{◌≡◌, ℕ, zero, suc, ◌+◌, ◌-◌, ◌^◌, ◌<◌, ◌≤◌, cond, List, [], ◌∷◌, ◌++◌, length, take, replicate, ◌==◌, nat_eq, nat_lt, slice_index, refl}
+use Rattle.std.specs.Prelude.{◌≡◌, ℕ, zero, suc, ◌+◌, ◌-◌, ◌^◌, ◌<◌, ◌≤◌, cond, List, [], ◌∷◌, length, take, replicate, ◌==◌, nat_eq, nat_lt, slice_index, refl}
 use Rattle.std.proofs.Common.{⊎_elim, sym, ◌∙◌, le_refl, arith}
 use Rattle.std.proofs.ByRecursion.{All-weaker}
 use Rattle.std.proofs.lemmas.List.{length-set, length-replicate, take_at}
@@ -10,7 +10,7 @@ use Rattle.lattice.specs.Kind.{Lawful, FirstBad, Ordered, Bounded, Closed, Monot
 use Rattle.lattice.specs.Lists.{value_lists}
 use Rattle.lattice.specs.Orders.{cellwise}
 use Rattle.lattice.specs.Words.{site, level}
-use Rattle.lattice.proofs.Cells.{append_upto, begins_same, filled_up, take_upto, replicate_upto, set_upto, all_upto, upto_all, cellwise_set, cellwise_ordered, below_replicate, above_zeros}
+use Rattle.lattice.proofs.Cells.{append_upto, begins_same, bit_upto, filled_up, front, take_upto, replicate_upto, set_upto, all_upto, upto_all, cellwise_set, cellwise_ordered, below_replicate, above_zeros}
 use Rattle.lattice.proofs.Listed.{listed, listed_parts, listed_once}
 use Rattle.lattice.proofs.Neighbours.{length_neighbours}
 use Rattle.spins.specs.Spin.{holding, threshold_index, spins_meaning}
@@ -69,7 +69,7 @@ table_rises table rises a (suc b) h k =
     (cases_lt a (suc b))
 
 spin_upto : (l t : ℕ) → cond (nat_lt l t) 1 0 ≤ 1
-spin_upto l t = cond_both (nat_lt l t) 1 0 (λ v. v ≤ 1) (λ e. omega arith) (λ e. omega arith)
+spin_upto l t = bit_upto (nat_lt l t)
 
 spin_rises : (l s t : ℕ) → s ≤ t → cond (nat_lt l s) 1 0 ≤ cond (nat_lt l t) 1 0
 spin_rises l s t h =
@@ -119,8 +119,8 @@ module _ (e : Extent) (table : List ℕ) where
   first_bad x i long within spins bad = record {
     within = within;
     before = (
-      take i x ++ replicate (length x - i) 0,
-      lawful_from (take i x ++ replicate (length x - i) 0) (filled_up x i (omega arith) ∙ long) (append_upto (take i x) (replicate (length x - i) 0) 1 (take_upto x i 1 spins) (λ k. replicate_upto (length x - i) 0 1 k (omega arith))),
+      front x i,
+      lawful_from (front x i) (filled_up x i (omega arith) ∙ long) (append_upto (take i x) (replicate (length x - i) 0) 1 (take_upto x i 1 spins) (λ k. replicate_upto (length x - i) 0 1 k (omega arith))),
       take_at (take i x) (replicate (length x - i) 0) (length (take i x)) refl,
     );
     up_to = λ b.
