@@ -91,11 +91,7 @@ impl<R: Read + Drop, W: Write> Console<'_, '_, '_, R, W> {
         directive: Directive,
     ) -> Result<(), Trouble> {
         match given_source(directive).ok_or(Trouble::Misplaced)? {
-            SourceGiven::Counter(counter) => {
-                let source = &counter;
-                let setting = Setting { rule, source };
-                self.after_source(Work { setting, ends })
-            }
+            SourceGiven::Counter(counter) => self.with_words(rule, ends, &counter),
             SourceGiven::Bytes(bytes) => self.with_bytes(rule, ends, bytes.as_slice()),
             SourceGiven::File(path) => {
                 let bytes = fs::read(self.rt, text_of(path.as_slice())?)?;
@@ -113,7 +109,15 @@ impl<R: Read + Drop, W: Write> Console<'_, '_, '_, R, W> {
         let Some(recording) = self.granted(Recording::new(bytes))? else {
             return Ok(());
         };
-        let source = &recording;
+        self.with_words(rule, ends, &recording)
+    }
+
+    fn with_words<K: Drawable, S: Source>(
+        &mut self,
+        rule: &K,
+        ends: Ends<K>,
+        source: &S,
+    ) -> Result<(), Trouble> {
         let setting = Setting { rule, source };
         self.after_source(Work { setting, ends })
     }

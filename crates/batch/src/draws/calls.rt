@@ -1,7 +1,7 @@
 // Opening, closing and giving up draws.
-ghost use Rattle.std.specs.Prelude.{◌≡◌};
+ghost use Rattle.std.specs.Prelude.{◌≡◌, ◌+◌, ◌≤◌};
 ghost use Rattle.batch.specs.Faults.{stretch_refusal};
-ghost use Rattle.batch.specs.Machine.{left_after, new_answer, one_closed, one_given_up, open_answer};
+ghost use Rattle.batch.specs.Machine.{left_after, limit, new_answer, one_closed, one_given_up, open_answer};
 ghost use Rattle.batch.specs.Meanings.{batch_machine, left_by_open, met_machine, open_machine, opened_as};
 ghost use Rattle.refusal.specs.Refusals.{answer};
 
@@ -50,17 +50,13 @@ impl MetDraw {
     pub fn close(self, token: Token) -> Batch
         ensures { batch_machine result ≡ one_closed (met_machine self) }
     {
-        let Token { _private } = token;
         let MetDraw { draw } = self;
-        let OpenDraw { batch, tried: _ } = draw;
-        let tally = batch.tally.with_draw();
-        Batch {
-            stretch: batch.stretch,
-            tally: Tally {
-                met: tally.met + 1,
-                ..tally
-            },
-        }
+        let tally = draw.batch.tally.with_draw();
+        let closed = Tally {
+            met: tally.met + 1,
+            ..tally
+        };
+        draw.ended(token, closed)
     }
 }
 
@@ -69,15 +65,26 @@ impl OpenDraw {
     pub fn give_up(self, token: Token) -> Batch
         ensures { batch_machine result ≡ one_given_up (open_machine self) }
     {
+        let tally = self.batch.tally.with_draw();
+        let given_up = Tally {
+            given_up: tally.given_up + 1,
+            ..tally
+        };
+        self.ended(token, given_up)
+    }
+
+    // The batch back, with the tally after the draw.
+    fn ended(self, token: Token, tally: Tally) -> Batch
+        requires few { tally.opened ≤ limit }
+        requires fair { tally.opened ≡ tally.met + tally.given_up }
+        ensures stretch { result.stretch ≡ self.batch.stretch }
+        ensures tally { result.tally ≡ tally }
+    {
         let Token { _private } = token;
         let OpenDraw { batch, tried: _ } = self;
-        let tally = batch.tally.with_draw();
         Batch {
             stretch: batch.stretch,
-            tally: Tally {
-                given_up: tally.given_up + 1,
-                ..tally
-            },
+            tally,
         }
     }
 }

@@ -50,14 +50,14 @@ impl SpinGrid {
         self.grid.fill(u8::from(up));
     }
 
-    // Takes spins that were found to be 0 or 1, one for each cell.
-    fn take_spins(&mut self, bytes: &[u8])
-        requires enough { cell_count (spin_extent self.old) ≤ length bytes.now }
-        requires spins { (i : ℕ) → slice_index (take (cell_count (spin_extent self.old)) bytes.now) i ≤ 1 }
-        ensures writes { spin_cells self.new ≡ take (cell_count (spin_extent self.old)) bytes.now }
+    // Takes spins, each found to be 0 or 1, one for each cell.
+    fn take_spins(&mut self, spins: &[u8])
+        requires each { length spins.now ≡ cell_count (spin_extent self.old) }
+        requires bits { (i : ℕ) → slice_index spins.now i ≤ 1 }
+        ensures writes { spin_cells self.new ≡ spins.now }
         ensures keeps { spin_extent self.new ≡ spin_extent self.old }
     {
-        self.grid.copy_from(bytes);
+        self.grid.copy_from(spins);
     }
 }
 
