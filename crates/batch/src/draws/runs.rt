@@ -44,7 +44,7 @@ impl OpenDraw {
     {
         let stretch = u64::from(self.batch.stretch);
         for exponent in 0u32..20 {
-            if self.try_doubled(setting, 2u64.pow(exponent), ends)? {
+            if self.try_doubled(setting, 1 << exponent, ends)? {
                 return Ok(true);
             }
         }
