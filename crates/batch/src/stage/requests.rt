@@ -18,6 +18,7 @@ use crate::fault::{Fault, Full};
 use crate::outcome::Outcome;
 use crate::setting::Setting;
 use crate::stage::{Drawn, Reply, Request, Stage};
+use coupling::shares_are_equal;
 use lattice::even::Even;
 use lattice::kind::Kind;
 use sources::source::Source;
@@ -57,6 +58,7 @@ impl Stage {
         ensures holds { HoldsInEveryHistory (setting_of K.Kind S.Source setting.now) }
         ensures keeps { SameExtents ends.old ends.new }
     {
+        setting.source.sound();
         self.step(request, setting, ends)
     }
 
@@ -73,6 +75,7 @@ impl Stage {
         ensures shares { EqualShares (E.meaning setting.now.rule.now) }
         ensures keeps { SameExtents ends.old ends.new }
     {
+        shares_are_equal(setting.rule);
         self.carry_out(request, setting, ends)
     }
 
