@@ -5,7 +5,7 @@ use crate::kind::Kind;
 
 pub trait Even: Kind {
     // Does nothing. Its promise, the exchange law, that as many words lead from a lawful state to another as back, is for
-    // the proofs of what calls it. It is owed for the rules that there are, and not for every number in their fields.
+    // the proofs of what calls it. It is owed for rules that exist, and may rest on what the types of their fields hold.
     fn exchanges(&self)
         ensures { Exchanges (Self.Kind.meaning self.now) };
 }
