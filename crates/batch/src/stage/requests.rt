@@ -19,6 +19,7 @@ use crate::fault::{Fault, Full};
 use crate::outcome::Outcome;
 use crate::setting::Setting;
 use crate::stage::{Drawn, Reply, Request, Stage};
+use coupling::shares_are_equal;
 use lattice::even::Even;
 use lattice::kind::Kind;
 use sources::source::Source;
@@ -59,6 +60,7 @@ impl Stage {
         ensures keeps { SameExtents (ends_of K.Kind ends.old) (ends_of K.Kind ends.new) }
         ensures same_ends { SameEnds ends.old ends.new }
     {
+        setting.source.sound();
         self.step(request, setting, ends)
     }
 
@@ -76,6 +78,7 @@ impl Stage {
         ensures keeps { SameExtents (ends_of E.Kind ends.old) (ends_of E.Kind ends.new) }
         ensures same_ends { SameEnds ends.old ends.new }
     {
+        shares_are_equal(setting.rule);
         self.carry_out(request, setting, ends)
     }
 
