@@ -17,14 +17,16 @@ fn recordings(rt: &HostRuntime) -> Result<(), Failed> {
     say(rt, "recording of 8 bytes", Recording::new(b"12345678"))?;
     say(rt, "recording of 7 bytes", Recording::new(b"1234567"))?;
     say(rt, "recording of 0 bytes", Recording::new(b""))?;
-    for length in [8_388_608, 8_388_616] {
-        let zeros = vec![in rt.alloc(); 0u8; length]?;
-        let what = format!(in rt.alloc(); "recording of {length} bytes")?;
-        say(rt, what.as_str(), Recording::new(zeros.as_slice()))?;
-    }
+    let zeros = vec![in rt.alloc(); 0u8; 8_388_616]?;
+    recording(rt, "recording of 8388608 bytes", &zeros[0..8_388_608])?;
+    recording(rt, "recording of 8388616 bytes", &zeros[0..8_388_616])?;
     // Its two words, and the places before the first and after the last.
     let bytes = b"\x00\x00\x00\x00\x00\x00\x01\x02\xff\x00\x00\x00\x00\x00\x00\x00";
     say_words(rt, "a recording", &accepted(Recording::new(bytes))?)
+}
+
+fn recording(rt: &HostRuntime, what: &str, bytes: &[u8]) -> Result<(), Failed> {
+    say(rt, what, Recording::new(bytes))
 }
 
 fn generator(rt: &HostRuntime) -> Result<(), Failed> {
