@@ -16,9 +16,9 @@ the_word : (number T w v : ℕ) (b : Bool) (c : Refusal) → given w ≡ read_fo
 the_word number T w v true c e = cc
 the_word number T w v false c e = cc
 
--- a move by the oldest word leaves the others to lead on
-pub moved : (m : Meaning) (r : Reading) (stretch d T t n w : ℕ) (x y end : List ℕ) → n ≡ suc t → given w ≡ placed r stretch d T n → y ≡ m.step w x → lead m (window_words r stretch d n) x ≡ end → lead m (window_words r stretch d t) y ≡ end
+-- a move by the oldest word, which was read at the place q, leaves the others to lead on
+pub moved : (m : Meaning) (r : Reading) (stretch d T t n q w : ℕ) (x y end : List ℕ) → n ≡ suc t → given w ≡ placed r stretch d T q → q ≡ n → y ≡ m.step w x → lead m (window_words r stretch d n) x ≡ end → lead m (window_words r stretch d t) y ≡ end
 unfolding window_words
-moved m r stretch d T t n w x y end e read step leads =
-    let here = the_word d T w _ (has_place r (draw_place stretch d n)) _ read in
-    rw (step, here, e) (rw e at leads)
+moved m r stretch d T t n q w x y end e read at step leads =
+    let here = the_word d T w _ (has_place r (draw_place stretch d q)) _ read in
+    rw (step, here, at, e) (rw e at leads)

@@ -4,6 +4,7 @@ pub mod Faults
 pub mod Meanings
 pub mod Tries
 pub mod Settings
+pub mod Lent
 pub mod Runs
 pub mod Reads
 pub mod Requests

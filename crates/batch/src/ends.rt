@@ -10,6 +10,13 @@ pub struct Ends<K: Kind> {
     pub high: K::State,
 }
 
+// The two states of a draw, lent for its calls.
+#[derive(Drop)]
+pub struct EndsMut<'a, K: Kind> {
+    pub low: &'a mut K::State,
+    pub high: &'a mut K::State,
+}
+
 impl<K: Kind> Model for Ends<K> {
     ghost use Rattle.batch.specs.Ends.{Two, two};
 

@@ -1,8 +1,16 @@
 // What draws are run with, and a draw from its opening to its end, with a printed line for each call.
+ghost use Rattle.std.specs.Prelude.{◌≡◌};
+ghost use Rattle.batch.specs.Ends.{two};
+ghost use Rattle.batch.specs.Meanings.{open_machine, open_one, outcome_report};
+ghost use Rattle.batch.specs.Runs.{RunReports};
+ghost use Rattle.batch.specs.Settings.{setting_of};
+ghost use Rattle.batch.specs.Tries.{try_report, with_two};
+ghost use Rattle.batch_runs.specs.declared.bench.Call.TheVariants.{Try, Run};
+
 use crate::ends::end;
 use anyhow::Context;
-use batch::draws::Batch;
-use batch::ends::Ends;
+use batch::draws::{Batch, OpenDraw};
+use batch::ends::EndsMut;
 use batch::outcome::Outcome;
 use batch::setting::Setting;
 use batch::stage::Drawn;
@@ -12,6 +20,7 @@ use partitions::state::PlanePartition;
 use refusal::Cause;
 use sources::fault::NoWord;
 use sources::recording::Recording;
+use sources::source::Source;
 use std::alloc::{AllocError, Global};
 use std::fmt;
 use task::answers::numbers_line;
@@ -21,7 +30,8 @@ use task::answers::numbers_line;
 pub struct Bench<'a> {
     pub rule: Partitions,
     words: Recording<'a>,
-    pub ends: Ends<Partitions>,
+    pub low: PlanePartition,
+    pub high: PlanePartition,
 }
 
 #[derive(Clone, Copy)]
@@ -43,8 +53,14 @@ impl<'a> Bench<'a> {
     pub fn new(heap: Global, cap: u64, bytes: &'a [u8]) -> anyhow::Result<Bench<'a>> {
         let rule = accepted(Partitions::new(1, 1, cap))?;
         let words = accepted(Recording::new(bytes))?;
-        let ends = accepted(Ends::new(heap, &rule))?;
-        Ok(Bench { rule, words, ends })
+        let low = accepted(rule.new_state(heap))?;
+        let high = accepted(rule.new_state(heap))?;
+        Ok(Bench {
+            rule,
+            words,
+            low,
+            high,
+        })
     }
 
     // Opens the next draw, makes the calls on it in turn, and ends it.
@@ -77,10 +93,7 @@ impl<'a> Bench<'a> {
             rule: &self.rule,
             source: &self.words,
         };
-        match call {
-            Call::Try(window) => draw.try_window(&setting, window, &mut self.ends),
-            Call::Run => draw.run(&setting, &mut self.ends),
-        }
+        lending(draw, call, &setting, &mut self.low, &mut self.high)
     }
 
     fn say(&self, rt: &HostRuntime, call: Call, outcome: &Outcome<NoWord>) -> anyhow::Result<()> {
@@ -90,10 +103,28 @@ impl<'a> Bench<'a> {
             Outcome::Apart(draw) => (String::from_str(heap, "apart")?, draw.drawn()),
             Outcome::Refused(draw, fault) => (refusal_text(heap, fault)?, draw.drawn()),
         };
-        let low = height_text(heap, &self.rule, &self.ends.low)?;
-        let high = height_text(heap, &self.rule, &self.ends.high)?;
+        let low = height_text(heap, &self.rule, &self.low)?;
+        let high = height_text(heap, &self.rule, &self.high)?;
         println!(rt; "{call}: {answer}, draw {number} window {window}, heights {low} {high}")?;
         Ok(())
+    }
+}
+
+// Makes the call, and lends it two states that lie anywhere.
+fn lending<K: Kind, S: Source>(
+    draw: OpenDraw,
+    call: Call,
+    setting: &Setting<K, S>,
+    low: &mut K::State,
+    high: &mut K::State,
+) -> Outcome<S::Fault>
+    ensures reports { elim call [ Try window ↦ outcome_report S.Fault.refusal result (K.cells low.new) (K.cells high.new) ≡ try_report (setting_of K.Kind S.Source setting.now) (open_machine draw) (with_two (open_one draw) (two (K.carried low.old) (K.carried high.old) (K.cells low.old) (K.cells high.old))) window | Run ↦ RunReports (setting_of K.Kind S.Source setting.now) (open_machine draw) (with_two (open_one draw) (two (K.carried low.old) (K.carried high.old) (K.cells low.old) (K.cells high.old))) (outcome_report S.Fault.refusal result (K.cells low.new) (K.cells high.new)) ] }
+    ensures keeps { (K.carried low.new ≡ K.carried low.old) × (K.carried high.new ≡ K.carried high.old) }
+{
+    let mut ends = EndsMut { low, high };
+    match call {
+        Call::Try(window) => draw.try_window(setting, window, &mut ends),
+        Call::Run => draw.run(setting, &mut ends),
     }
 }
 

@@ -7,7 +7,6 @@ mod ends;
 
 use anyhow::anyhow;
 use batch::draws::{Batch, Tally};
-use batch::ends::Ends;
 use batch::fault::Fault;
 use bench::{Bench, Call, accepted, refusal_text};
 use ends::{end_apart, give_up_next, let_go};
@@ -103,18 +102,14 @@ fn foreign_states(rt: &HostRuntime) -> anyhow::Result<()> {
     let wide = accepted(Partitions::new(1, 2, 9))?;
     let mut bench = Bench::new(rt.alloc(), 9, &[0; 8])?;
     let batch = accepted(Batch::new(1))?;
-    bench.ends = Ends {
-        low: loaded(rt, &bench.rule, &[7])?,
-        high: loaded(rt, &wide, &[6, 5])?,
-    };
+    bench.low = loaded(rt, &bench.rule, &[7])?;
+    bench.high = loaded(rt, &wide, &[6, 5])?;
     let batch = bench.draw(rt, batch, &[Call::Try(1), Call::Run])?;
-    say_foreign(rt, &wide, &bench.ends.high)?;
-    bench.ends = Ends {
-        low: loaded(rt, &wide, &[6, 5])?,
-        high: loaded(rt, &bench.rule, &[7])?,
-    };
+    say_foreign(rt, &wide, &bench.high)?;
+    bench.low = loaded(rt, &wide, &[6, 5])?;
+    bench.high = loaded(rt, &bench.rule, &[7])?;
     let batch = bench.draw(rt, batch, &[Call::Try(1), Call::Run])?;
-    say_foreign(rt, &wide, &bench.ends.low)?;
+    say_foreign(rt, &wide, &bench.low)?;
     finish(rt, batch)
 }
 

@@ -21,12 +21,19 @@ pub fn meets_where_all_end<K: Kind>(rule: &K)
 pub fn larger_windows_keep_the_sample<K: Kind, S: Source>(rule: &K, source: &S)
     ensures older { OlderWordsChangeNothing (K.meaning rule.now) }
     ensures larger { LargerWindowsKeepTheSample (K.meaning rule.now) (S.reading source.now) }
-{}
+{
+    source.sound();
+}
 
 pub fn agreeing_sources_meet_alike<K: Kind, S: Source, T: Source>(rule: &K, first: &S, second: &T)
     ensures { AgreeingSourcesMeetAlike (K.meaning rule.now) (S.reading first.now) (T.reading second.now) }
-{}
+{
+    first.sound();
+    second.sound();
+}
 
 pub fn shares_are_equal<E: Even>(rule: &E)
     ensures { EqualShares (E.meaning rule.now) }
-{}
+{
+    rule.exchanges();
+}

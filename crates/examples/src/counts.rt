@@ -1,6 +1,5 @@
 // Counting lawful states by loading every list of cells there is.
-use crate::say::accepted;
-use anyhow::Context;
+use crate::say::{Failed, accepted, made};
 use independent_sets::rule::IndependentSets;
 use lattice::kind::Kind;
 use partitions::rule::Partitions;
@@ -17,7 +16,7 @@ const BOXES: [(u64, u64, u64); 8] = [
     (3, 3, 2),
 ];
 
-pub fn show(rt: &HostRuntime) -> anyhow::Result<()> {
+pub fn show(rt: &HostRuntime) -> Result<(), Failed> {
     for (rows, columns, cap) in BOXES {
         let count = lawful_lists(rt, &accepted(Partitions::new(rows, columns, cap))?)?;
         println!(rt; "partitions {rows} by {columns}, cap {cap}: {count}")?;
@@ -30,26 +29,28 @@ pub fn show(rt: &HostRuntime) -> anyhow::Result<()> {
 }
 
 // How many lists of cells from 0 to the cap the rule takes for a state.
-fn lawful_lists<K: Kind>(rt: &HostRuntime, rule: &K) -> anyhow::Result<usize> {
-    let mut state = accepted(rule.new_state(rt.alloc()))?;
+fn lawful_lists<K: Kind>(rt: &HostRuntime, rule: &K) -> Result<usize, Failed> {
+    let mut state = made(rt, rule)?;
     let mut cells = vec![in rt.alloc(); 0u8; rule.cell_count() as usize]?;
     let cap = rule.cap();
     let lists = (u32::from(cap) + 1)
         .checked_pow(rule.cell_count())
-        .context("too many lists of cells")?;
-    let lawful = (0..lists).filter(|list| {
-        write_list(cells.as_mut_slice(), cap, *list);
-        rule.load(&mut state, cells.as_slice()).is_ok()
+        .ok_or(Failed::Example)?;
+    let lawful = (0..lists).filter(|_| {
+        let loads = rule.load(&mut state, cells.as_slice()).is_ok();
+        count_up(cells.as_mut_slice(), cap);
+        loads
     });
     Ok(lawful.count())
 }
 
-// Writes the list of this number: its digits to the base one above the cap, the lowest first.
-fn write_list(cells: &mut [u8], cap: u8, list: u32) {
-    let base = u32::from(cap) + 1;
-    let mut rest = list;
+// The next list of cells from 0 to the cap, the first cell fastest; after the last list the first again.
+fn count_up(cells: &mut [u8], cap: u8) {
     for cell in cells.iter_mut() {
-        *cell = (rest % base) as u8;
-        rest /= base;
+        if *cell < cap {
+            *cell += 1;
+            return;
+        }
+        *cell = 0;
     }
 }

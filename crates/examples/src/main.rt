@@ -8,7 +8,9 @@ mod say;
 mod states;
 mod words;
 
-fn main(rt: HostRuntime) -> anyhow::Result<()> {
+use say::Failed;
+
+fn main(rt: HostRuntime) -> Result<(), Failed> {
     proved::meets_at_the_third_window();
     words::show(&rt)?;
     rules::show(&rt)?;

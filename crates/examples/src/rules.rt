@@ -1,6 +1,6 @@
 // Rules: sides, caps and threshold tables.
 use crate::proved::frozen_spins;
-use crate::say::say;
+use crate::say::{Failed, say};
 use independent_sets::rule::IndependentSets;
 use partitions::rule::Partitions;
 use spins::rule::Spins;
@@ -26,7 +26,7 @@ const TABLES: [(&str, [u64; 9]); 5] = [
     ),
 ];
 
-pub fn show(rt: &HostRuntime) -> anyhow::Result<()> {
+pub fn show(rt: &HostRuntime) -> Result<(), Failed> {
     say(rt, "sides 32 by 32", Spins::from_numbers(32, 32, 1, FLAT))?;
     say(rt, "sides 33 by 32", Spins::from_numbers(33, 32, 1, FLAT))?;
     say(rt, "sides 32 by 33", Spins::from_numbers(32, 33, 1, FLAT))?;
@@ -49,7 +49,7 @@ pub fn show(rt: &HostRuntime) -> anyhow::Result<()> {
 }
 
 // The largest cap of each kind, and one more.
-fn caps(rt: &HostRuntime) -> anyhow::Result<()> {
+fn caps(rt: &HostRuntime) -> Result<(), Failed> {
     say(rt, "partitions with cap 255", Partitions::new(32, 32, 255))?;
     say(rt, "partitions with cap 256", Partitions::new(32, 32, 256))?;
     say(rt, "partitions with cap 0", Partitions::new(32, 32, 0))?;

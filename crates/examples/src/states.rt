@@ -1,11 +1,11 @@
 // States: which belong to a rule, and loading cells.
 use crate::rules::FLAT;
-use crate::say::{accepted, say};
+use crate::say::{Failed, accepted, made, say};
 use lattice::kind::Kind;
 use spins::rule::Spins;
 use task::answers::numbers_line;
 
-pub fn show(rt: &HostRuntime) -> anyhow::Result<()> {
+pub fn show(rt: &HostRuntime) -> Result<(), Failed> {
     let square = accepted(Spins::from_numbers(2, 2, 1, FLAT))?;
     let row = accepted(Spins::from_numbers(1, 4, 1, FLAT))?;
     foreign(rt, &square, &row)?;
@@ -13,9 +13,9 @@ pub fn show(rt: &HostRuntime) -> anyhow::Result<()> {
 }
 
 // A state of the rule `other`, handed to `rule`.
-fn foreign<K: Kind>(rt: &HostRuntime, rule: &K, other: &K) -> anyhow::Result<()> {
-    let mut own = accepted(rule.new_state(rt.alloc()))?;
-    let mut state = accepted(other.new_state(rt.alloc()))?;
+fn foreign<K: Kind>(rt: &HostRuntime, rule: &K, other: &K) -> Result<(), Failed> {
+    let mut own = made(rt, rule)?;
+    let mut state = made(rt, other)?;
     say(rt, "bottom of a foreign state", rule.set_bottom(&mut state))?;
     say(rt, "top of a foreign state", rule.set_top(&mut state))?;
     say(rt, "word to a foreign state", rule.apply(&mut state, 0))?;
@@ -29,8 +29,8 @@ fn foreign<K: Kind>(rt: &HostRuntime, rule: &K, other: &K) -> anyhow::Result<()>
 }
 
 // Six cells, of which one after the other is no spin.
-fn loads<K: Kind>(rt: &HostRuntime, rule: &K) -> anyhow::Result<()> {
-    let mut state = accepted(rule.new_state(rt.alloc()))?;
+fn loads<K: Kind>(rt: &HostRuntime, rule: &K) -> Result<(), Failed> {
+    let mut state = made(rt, rule)?;
     say(rt, "six cells", rule.load(&mut state, &[1, 0, 1, 1, 0, 1]))?;
     say(
         rt,
@@ -46,7 +46,7 @@ fn loads<K: Kind>(rt: &HostRuntime, rule: &K) -> anyhow::Result<()> {
     say_cells(rt, rule, &state)
 }
 
-fn say_cells<K: Kind>(rt: &HostRuntime, rule: &K, state: &K::State) -> anyhow::Result<()> {
+fn say_cells<K: Kind>(rt: &HostRuntime, rule: &K, state: &K::State) -> Result<(), Failed> {
     let cells: Vec<u64> = (0..6)
         .map(|cell| accepted(rule.cell(state, cell)).map(u64::from))
         .try_collect(rt.alloc())?;

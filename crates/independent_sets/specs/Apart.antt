@@ -1,8 +1,8 @@
 -- Independent sets cell by cell: an occupied cell has only empty neighbours.
-use Rattle.std.specs.Prelude.{◌≡◌, ℕ, ◌<◌, ◌≤◌, true, false, ◌&&◌, ◌||◌, ◌⊎◌, List, length, take, ◌==◌, nat_eq, slice_index, slice_index_or, slice_set}
+use Rattle.std.specs.Prelude.{◌≡◌, ℕ, ◌<◌, ◌≤◌, true, false, ◌&&◌, ◌||◌, ◌⊎◌, List, length, take, ◌==◌, ◌≢◌, nat_eq, slice_index, slice_index_or, slice_set}
 use Rattle.std.proofs.Common.{inl, inr, ⊎_elim, sym, ◌∙◌, arith}
 use Rattle.std.proofs.lemmas.List.{get_or-set_other, get_or-set_same, get_or-take, length-take-le, set_past}
-use Rattle.std.proofs.lemmas.Bool.{and_cases, and_parts, cases_eq, cases_lt, eq-eqb, eqb-false, eqb-true, or_cases, or_left, or_parts, or_right}
+use Rattle.std.proofs.lemmas.Bool.{and_cases, and_parts, cases_Bool, cases_eq, cases_lt, eq-eqb, eqb-false, eqb-true, or_cases, or_left, or_parts, or_right}
 use Rattle.std.specs.List.{range_with_len}
 use Rattle.lattice.specs.Kind.{Holds}
 use Rattle.lattice.specs.Grid.{Extent, cell_count, neighbours}
@@ -25,6 +25,9 @@ module _ (e : Extent) (x : List ℕ) where
   not_free i f =
       let p = fail_at (λ k. nat_eq (slice_index x k) 0) (neighbours e i) f in
       (p.0, p.1, omega (arith, eqb-false (slice_index x p.0) 0 p.2))
+
+  pub taken : (i j : ℕ) → Holds (neighbours e i) j → (slice_index x j ≢ 0) → free e x i ≡ false
+  taken i j h occupied = ⊎_elim (λ (t : free e x i ≡ true). absurd (occupied (free_at i j t h))) (λ f. f) (cases_Bool (free e x i))
 
   pub apart_from : length x ≡ cell_count e → independent e x ≡ true → Apart
   apart_from long t i j h occupied =

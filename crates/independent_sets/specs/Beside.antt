@@ -1,5 +1,5 @@
 -- Neighbours on a grid: each is a cell of the grid, each is a neighbour of the other, and they have opposite colours.
-use Rattle.std.specs.Prelude.{◌≡◌, ℕ, ◌+◌, ◌*◌, ◌/◌, ◌%◌, ◌<◌, ◌≤◌, Bool, true, false, not, ◌⊎◌, List, [], ◌++◌, ℤ, pos, negsuc, ◌+ℤ◌, Some, None, Option, ◌==◌, ◌≢◌, refl}
+use Rattle.std.specs.Prelude.{◌≡◌, ℕ, zero, suc, ◌+◌, ◌*◌, ◌/◌, ◌%◌, ◌<◌, ◌≤◌, Bool, true, false, not, ◌⊎◌, List, [], ◌++◌, ℤ, pos, negsuc, ◌+ℤ◌, Some, None, Option, ◌==◌, ◌≢◌, refl}
 use Rattle.std.proofs.Common.{inl, inr, ⊎_elim, sym, ap, ap₂, ◌∙◌, subst, mul_comm, mul-zero, arith}
 use Rattle.std.proofs.lemmas.Nat.{div_below, div-add-mod', div-mul-add, mod_below, mod-mul-add, mul-add-lt}
 use Rattle.std.proofs.lemmas.Int.{ints}
@@ -8,7 +8,7 @@ use Rattle.std.specs.Option.{option_to_list}
 use Rattle.lattice.specs.Kind.{Holds}
 use Rattle.lattice.proofs.Listed.{holds_cases, holds_left, holds_right}
 use Rattle.lattice.specs.Grid.{Extent, beside, cell_at, cell_count, neighbours}
-use Rattle.lattice.proofs.Neighbours.{cell_from, cell_parts}
+use Rattle.lattice.proofs.Neighbours.{cell_from, cell_parts, direction, seen, seen_more}
 use Rattle.independent_sets.specs.Independent.{white}
 
 abbrev row : Extent → ℕ → ℕ
@@ -126,6 +126,27 @@ module _ (e : Extent) (i j : ℕ) where
   from_next within (inl (inl r, c)) = in_below (to_from (pos 1) (pos 0) within (omega (arith, ints)) (omega (arith, ints)))
   from_next within (inr (r, inr c)) = in_left (to_from (pos 0) (negsuc 0) within (omega (arith, ints)) (omega (arith, ints)))
   from_next within (inr (r, inl c)) = in_right (to_from (pos 0) (pos 1) within (omega (arith, ints)) (omega (arith, ints)))
+
+  -- what the walk finds in a direction is a neighbour
+  pub neighbour_at : (n : ℕ) → n < 4 → Some j ≡ beside e i (direction n) → Holds (neighbours e i) j
+  neighbour_at zero h at = in_above (among_some _ j (sym at))
+  neighbour_at (suc zero) h at = in_below (among_some _ j (sym at))
+  neighbour_at (suc (suc zero)) h at = in_left (among_some _ j (sym at))
+  neighbour_at (suc (suc (suc zero))) h at = in_right (among_some _ j (sym at))
+  neighbour_at (suc (suc (suc (suc n)))) h at = absurd (omega arith)
+
+-- one more direction of the walk: what holds of each neighbour seen so far
+module _ (P : ℕ → Type 0) (e : Extent) (i n : ℕ) (few : n < 4) (each : (j : ℕ) → Holds (seen e i n) j → P j) where
+  seen_each : (o : Option ℕ) → o ≡ beside e i (direction n) → ((j : ℕ) → o ≡ Some j → P j) → (j : ℕ) → Holds (seen e i (n + 1)) j → P j
+  seen_each o at more j among =
+      let both : Holds (seen e i n ++ option_to_list (beside e i (direction n))) j = rw (seen_more e i n few) at among in
+      ⊎_elim (each j) (λ k. more j (at ∙ some_among (beside e i (direction n)) j k)) (holds_cases (seen e i n) (option_to_list (beside e i (direction n))) j both)
+
+  pub seen_none : None ≡ beside e i (direction n) → (j : ℕ) → Holds (seen e i (n + 1)) j → P j
+  seen_none at = seen_each None at (λ j same. let z : ◌≡◌ {A = ℕ} 0 1 = cc in absurd (omega arith))
+
+  pub seen_some : (k : ℕ) → Some k ≡ beside e i (direction n) → P k → (j : ℕ) → Holds (seen e i (n + 1)) j → P j
+  seen_some k at here = seen_each (Some k) at (λ j same. let e' : k ≡ j = cc in subst P e' here)
 
 apart_back : (a b : ℕ) → OneApart a b → OneApart b a
 apart_back a b = ⊎_elim inr inl

@@ -15,7 +15,7 @@ use Rattle.lattice.proofs.Listed.{kept_holds, kept_once, kept_parts, listed, lis
 use Rattle.independent_sets.specs.Independent.{checkerboard, clear, fill, free, independent, independent_sets, may_follow, white}
 use Rattle.independent_sets.specs.Apart.{Apart, apart_from, follow_apart, follow_upto, free_at, free_from, from_apart, set_apart, stops_parts}
 use Rattle.independent_sets.specs.Beside.{neighbour_apart, neighbour_other}
-use Rattle.independent_sets.specs.Checkerboards.{Turned, checkerboard_upto, checkerwise_set, coloured, coloured_apart, coloured_bits, length_checkerboard, turned_along, turned_same, turned_sets, upto_checkerboard, when_from}
+use Rattle.independent_sets.specs.Checkerboards.{Turned, checkerboard_apart, checkerboard_bits, checkerboard_upto, checkerwise_set, coloured, coloured_apart, coloured_bits, length_checkerboard, turned_along, turned_same, turned_sets, upto_checkerboard, when_from}
 
 bit_rises : (s t : Bool) → (s ≡ true → t ≡ true) → cond s 1 0 ≤ cond t 1 0
 bit_rises true t h = rw (h refl) (omega arith)
@@ -59,6 +59,10 @@ module _ (e : Extent) where
     antisymmetric = λ x y h k low high. ext_get_or 0 x y ((lawful_parts x h).0 ∙ sym (lawful_parts y k).0) (λ i l. turned_same (white e i) _ _ (low i) (high i));
     transitive = λ x y z h k l low high i. turned_along (white e i) _ _ _ (low i) (high i);
   }
+
+  checkerboard_lawful : (on_white on_black : ℕ) → on_white ≤ 1 → on_black ≤ 1 → (0 < on_white → on_black ≡ 0) → Lawful (independent_sets e) (checkerboard e on_white on_black)
+  checkerboard_lawful on_white on_black h k alone =
+      lawful_from (checkerboard e on_white on_black) (length_checkerboard e on_white on_black) (checkerboard_bits e on_white on_black h k) (from_apart e _ (checkerboard_apart e on_white on_black alone))
 
   coloured_lawful : (light : Bool) → Lawful (independent_sets e) (coloured e light)
   coloured_lawful light = lawful_from (coloured e light) (length_checkerboard e _ _) (coloured_bits e light) (coloured_apart e light)

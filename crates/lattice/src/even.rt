@@ -4,6 +4,8 @@ ghost use Rattle.lattice.specs.Counts.{Exchanges};
 use crate::kind::Kind;
 
 pub trait Even: Kind {
-    // As many words lead from a lawful state to another as back.
-    ghost exchanges: { (k : Self) → Exchanges (Self.meaning k) };
+    // Does nothing. Its promise, the exchange law, that as many words lead from a lawful state to another as back, is for
+    // the proofs of what calls it. It is owed for rules that exist, and may rest on what the types of their fields hold.
+    fn exchanges(&self)
+        ensures { Exchanges (Self.Kind.meaning self.now) };
 }

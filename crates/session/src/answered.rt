@@ -13,7 +13,7 @@ ghost use Rattle.std.specs.Option.{option_map};
 
 use crate::draw_lines::{answer_lines, draw_concerned};
 use crate::drawable::Drawable;
-use batch::ends::Ends;
+use batch::ends::{Ends, EndsMut};
 use batch::setting::Setting;
 use batch::stage::{Reply, Request, Stage};
 use lattice::fault::StateFault;
@@ -40,7 +40,11 @@ pub(crate) fn carry_out<K: Drawable, S: Source>(
     ensures keeps { SameExtents ends.old ends.new }
 {
     let before = stage.draw();
-    let (stage, reply) = K::carry_out(stage, request, setting, ends);
+    let mut lent = EndsMut {
+        low: &mut ends.low,
+        high: &mut ends.high,
+    };
+    let (stage, reply) = K::carry_out(stage, request, setting, &mut lent);
     let draw = draw_concerned(before, stage.draw());
     let lines = answer_lines(heap, setting.rule, &reply, draw, ends);
     Answered {

@@ -1,11 +1,12 @@
 // Kinds of which a task can draw samples. An even kind takes the call that also promises equal shares. One impl for all
 // even kinds would overlap that for spins, since nothing says that spins are not even.
 ghost use Rattle.batch.specs.Ends.{SameExtents};
+ghost use Rattle.batch.specs.Lent.{SameEnds, ends_of};
 ghost use Rattle.batch.specs.Requests.{Carries, response};
 ghost use Rattle.batch.specs.Settings.{setting_of};
 ghost use Rattle.batch.specs.Stages.{said_by, stage_machine};
 
-use batch::ends::Ends;
+use batch::ends::EndsMut;
 use batch::setting::Setting;
 use batch::stage::{Reply, Request, Stage};
 use independent_sets::rule::IndependentSets;
@@ -20,10 +21,11 @@ pub trait Drawable: Kind {
         stage: Stage,
         request: Request,
         setting: &Setting<Self, S>,
-        ends: &mut Ends<Self>,
+        ends: &mut EndsMut<Self>,
     ) -> (Stage, Reply<S::Fault>)
-        ensures carries { Carries (setting_of Self.Kind S.Source setting.now) ends.old (stage_machine stage) request (response (said_by S.Fault.refusal result.1) (stage_machine result.0) ends.new.low ends.new.high) }
-        ensures keeps { SameExtents ends.old ends.new };
+        ensures carries { Carries (setting_of Self.Kind S.Source setting.now) (ends_of Self.Kind ends.old) (stage_machine stage) request (response (said_by S.Fault.refusal result.1) (stage_machine result.0) (Self.cells ends.new.low.now) (Self.cells ends.new.high.now)) }
+        ensures keeps { SameExtents (ends_of Self.Kind ends.old) (ends_of Self.Kind ends.new) }
+        ensures same_ends { SameEnds ends.old ends.new };
 }
 
 impl Drawable for Spins {
@@ -31,7 +33,7 @@ impl Drawable for Spins {
         stage: Stage,
         request: Request,
         setting: &Setting<Spins, S>,
-        ends: &mut Ends<Spins>,
+        ends: &mut EndsMut<Spins>,
     ) -> (Stage, Reply<S::Fault>) {
         stage.carry_out(request, setting, ends)
     }
@@ -42,7 +44,7 @@ impl Drawable for Partitions {
         stage: Stage,
         request: Request,
         setting: &Setting<Partitions, S>,
-        ends: &mut Ends<Partitions>,
+        ends: &mut EndsMut<Partitions>,
     ) -> (Stage, Reply<S::Fault>) {
         stage.carry_out_even(request, setting, ends)
     }
@@ -53,7 +55,7 @@ impl Drawable for IndependentSets {
         stage: Stage,
         request: Request,
         setting: &Setting<IndependentSets, S>,
-        ends: &mut Ends<IndependentSets>,
+        ends: &mut EndsMut<IndependentSets>,
     ) -> (Stage, Reply<S::Fault>) {
         stage.carry_out_even(request, setting, ends)
     }

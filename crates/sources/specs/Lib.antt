@@ -3,4 +3,3 @@ pub mod Sources
 pub mod SplitMix
 pub mod Recordings
 pub mod Readings
-pub mod Soundness

@@ -11,6 +11,10 @@ pub record Reading : Type 0 where
 abbrev pub has_place : Reading → ℕ → Bool
 has_place s place = nat_le 1 place && nat_le place s.depth
 
+-- Whether a place is one of the places 1 to depth, or else the refusal of it.
+abbrev pub place_answer : (place depth : ℕ) → Answer (Unit {0})
+place_answer place depth = provided (nat_le 1 place && nat_le place depth) (no_word_refusal (record { place = place; depth = depth })) (given tt)
+
 abbrev pub word_answer : Reading → ℕ → Answer ℕ
 word_answer s place =
     provided (has_place s place) (no_word_refusal (record { place = place; depth = s.depth }))

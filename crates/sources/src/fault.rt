@@ -1,6 +1,8 @@
 // The refusals of sources. specs/Faults.antt has their numbers.
 ghost use Rattle.std.specs.Prelude.{◌≡◌, ◌<◌, ◌≤◌, ◌⊎◌, MatchResult};
+ghost use Rattle.refusal.specs.Refusals.{answer};
 ghost use Rattle.sources.specs.Faults.{no_word_refusal, recording_refusal};
+ghost use Rattle.sources.specs.Sources.{place_answer};
 
 use refusal::Cause;
 use std::alloc::AllocError;
@@ -15,7 +17,8 @@ pub struct NoWord {
 impl NoWord {
     // Refuses a place that is not one of the places 1 to depth.
     pub(crate) fn unless_among(place: u64, depth: u64) -> Result<(), NoWord>
-        ensures { MatchResult result (λ u. (1 ≤ place) × (place ≤ depth)) (λ e. (e.place ≡ place) × (e.depth ≡ depth) × ((place ≡ 0) ⊎ (depth < place))) }
+        ensures answers { answer (λ u. u) no_word_refusal result ≡ place_answer place depth }
+        ensures bounds { MatchResult result (λ u. (1 ≤ place) × (place ≤ depth)) (λ e. (e.place ≡ place) × (e.depth ≡ depth) × ((place ≡ 0) ⊎ (depth < place))) }
     {
         if (1..=depth).contains(&place) {
             Ok(())

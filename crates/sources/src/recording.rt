@@ -1,7 +1,6 @@
 // Recordings: words read out of borrowed bytes, each from eight of them in big-endian order.
 ghost use Rattle.std.specs.Prelude.{◌≡◌};
 ghost use Rattle.sources.specs.Recordings.{big_endian, recording_reading};
-ghost use Rattle.std.proofs.Common.{rules};
 
 mod methods;
 
@@ -18,8 +17,6 @@ impl Source for Recording<'_> {
 
     ghost reading = { λ r. recording_reading r.bytes.now };
 
-    ghost sound = { Prim.search rules };
-
     fn depth(&self) -> u64 {
         self.bytes.len() as u64 / 8
     }
@@ -29,6 +26,8 @@ impl Source for Recording<'_> {
         let (words, _) = self.bytes.as_chunks::<8>();
         Ok(word_of(words[place as usize - 1]))
     }
+
+    fn sound(&self) {}
 }
 
 // The word that eight bytes write.

@@ -20,6 +20,8 @@ pub trait Source {
     fn word(&self, place: u64) -> Result<u64, Self::Fault>
         ensures { answer (λ w. w) Self.Fault.Cause.refusal result ≡ word_answer (reading self.now) place };
 
-    // Every word fits 64 bits.
-    ghost sound: { (s : Self) → Sound (reading s) };
+    // Does nothing. Its promise, that every word fits 64 bits, is for the proofs of what calls it. It is owed for sources
+    // that exist, and may rest on what the types of their fields hold.
+    fn sound(&self)
+        ensures { Sound (reading self.now) };
 }

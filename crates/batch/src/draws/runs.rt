@@ -1,13 +1,14 @@
 // Running an open draw: windows are tried in turn until one meets.
 ghost use Rattle.std.specs.Prelude.{◌≡◌, ◌^◌, ◌<◌, ◌≤◌, true, Ok};
 ghost use Rattle.batch.specs.Ends.{SameExtents};
+ghost use Rattle.batch.specs.Lent.{SameEnds, ends_of};
 ghost use Rattle.batch.specs.Meanings.{open_machine, open_one, outcome_report, result_report};
 ghost use Rattle.batch.specs.Runs.{RunReports, doubled_report};
 ghost use Rattle.batch.specs.Settings.{setting_of};
 ghost use Rattle.batch.specs.Tries.{with_two};
 
 use crate::draws::OpenDraw;
-use crate::ends::Ends;
+use crate::ends::EndsMut;
 use crate::fault::Fault;
 use crate::outcome::Outcome;
 use crate::setting::Setting;
@@ -20,10 +21,11 @@ impl OpenDraw {
     pub fn run<K: Kind, S: Source>(
         mut self,
         setting: &Setting<K, S>,
-        ends: &mut Ends<K>,
+        ends: &mut EndsMut<K>,
     ) -> Outcome<S::Fault>
-        ensures reports { RunReports (setting_of K.Kind S.Source setting.now) (open_machine self) (with_two (open_one self) ends.old) (outcome_report S.Fault.refusal result ends.new.low ends.new.high) }
-        ensures keeps { SameExtents ends.old ends.new }
+        ensures reports { RunReports (setting_of K.Kind S.Source setting.now) (open_machine self) (with_two (open_one self) (ends_of K.Kind ends.old)) (outcome_report S.Fault.refusal result (K.cells ends.new.low.now) (K.cells ends.new.high.now)) }
+        ensures keeps { SameExtents (ends_of K.Kind ends.old) (ends_of K.Kind ends.new) }
+        ensures same_ends { SameEnds ends.old ends.new }
     {
         let result = self.try_windows(setting, ends);
         self.into_outcome(result)
@@ -33,15 +35,16 @@ impl OpenDraw {
     fn try_windows<K: Kind, S: Source>(
         &mut self,
         setting: &Setting<K, S>,
-        ends: &mut Ends<K>,
+        ends: &mut EndsMut<K>,
     ) -> Result<bool, Fault<S::Fault>>
-        ensures reports { RunReports (setting_of K.Kind S.Source setting.now) (open_machine self.old) (with_two (open_one self.old) ends.old) (result_report S.Fault.refusal result self.new ends.new.low ends.new.high) }
+        ensures reports { RunReports (setting_of K.Kind S.Source setting.now) (open_machine self.old) (with_two (open_one self.old) (ends_of K.Kind ends.old)) (result_report S.Fault.refusal result self.new (K.cells ends.new.low.now) (K.cells ends.new.high.now)) }
         ensures some { result ≡ Ok true → 1 ≤ self.new.tried }
-        ensures keeps { SameExtents ends.old ends.new }
+        ensures keeps { SameExtents (ends_of K.Kind ends.old) (ends_of K.Kind ends.new) }
+        ensures same_ends { SameEnds ends.old ends.new }
     {
         let stretch = u64::from(self.batch.stretch);
         for exponent in 0u32..20 {
-            if self.try_doubled(setting, 2u64.pow(exponent), ends)? {
+            if self.try_doubled(setting, 1 << exponent, ends)? {
                 return Ok(true);
             }
         }
@@ -53,12 +56,13 @@ impl OpenDraw {
         &mut self,
         setting: &Setting<K, S>,
         window: u64,
-        ends: &mut Ends<K>,
+        ends: &mut EndsMut<K>,
     ) -> Result<bool, Fault<S::Fault>>
-        ensures reports { result_report S.Fault.refusal result self.new ends.new.low ends.new.high ≡ doubled_report (setting_of K.Kind S.Source setting.now) (open_machine self.old) (with_two (open_one self.old) ends.old) window }
+        ensures reports { result_report S.Fault.refusal result self.new (K.cells ends.new.low.now) (K.cells ends.new.high.now) ≡ doubled_report (setting_of K.Kind S.Source setting.now) (open_machine self.old) (with_two (open_one self.old) (ends_of K.Kind ends.old)) window }
         ensures some { result ≡ Ok true → 1 ≤ self.new.tried }
         ensures same { self.new.batch ≡ self.old.batch }
-        ensures keeps { SameExtents ends.old ends.new }
+        ensures keeps { SameExtents (ends_of K.Kind ends.old) (ends_of K.Kind ends.new) }
+        ensures same_ends { SameEnds ends.old ends.new }
     {
         if window <= u64::from(self.tried) || window >= u64::from(self.batch.stretch) {
             return Ok(false);

@@ -1,6 +1,7 @@
 // Trying windows of an open draw.
 ghost use Rattle.std.specs.Prelude.{◌≡◌, ℕ, ◌≤◌, true, List, Ok};
 ghost use Rattle.batch.specs.Ends.{SameExtents};
+ghost use Rattle.batch.specs.Lent.{SameEnds, ends_of};
 ghost use Rattle.batch.specs.Faults.{fault_refusal};
 ghost use Rattle.batch.specs.Meanings.{open_machine, open_one, outcome_report, result_report};
 ghost use Rattle.batch.specs.Reads.{words_in};
@@ -10,7 +11,7 @@ ghost use Rattle.refusal.specs.Refusals.{Refusal, answer};
 
 use crate::draws::windows::Window;
 use crate::draws::{MetDraw, OpenDraw};
-use crate::ends::Ends;
+use crate::ends::EndsMut;
 use crate::fault::Fault;
 use crate::outcome::Outcome;
 use crate::setting::Setting;
@@ -24,10 +25,11 @@ impl OpenDraw {
         mut self,
         setting: &Setting<K, S>,
         window: u64,
-        ends: &mut Ends<K>,
+        ends: &mut EndsMut<K>,
     ) -> Outcome<S::Fault>
-        ensures reports { outcome_report S.Fault.refusal result ends.new.low ends.new.high ≡ try_report (setting_of K.Kind S.Source setting.now) (open_machine self) (with_two (open_one self) ends.old) window }
-        ensures keeps { SameExtents ends.old ends.new }
+        ensures reports { outcome_report S.Fault.refusal result (K.cells ends.new.low.now) (K.cells ends.new.high.now) ≡ try_report (setting_of K.Kind S.Source setting.now) (open_machine self) (with_two (open_one self) (ends_of K.Kind ends.old)) window }
+        ensures keeps { SameExtents (ends_of K.Kind ends.old) (ends_of K.Kind ends.new) }
+        ensures same_ends { SameEnds ends.old ends.new }
     {
         let result = self.attempt(setting, window, ends);
         self.into_outcome(result)
@@ -50,12 +52,13 @@ impl OpenDraw {
         &mut self,
         setting: &Setting<K, S>,
         window: u64,
-        ends: &mut Ends<K>,
+        ends: &mut EndsMut<K>,
     ) -> Result<bool, Fault<S::Fault>>
-        ensures reports { result_report S.Fault.refusal result self.new ends.new.low ends.new.high ≡ try_report (setting_of K.Kind S.Source setting.now) (open_machine self.old) (with_two (open_one self.old) ends.old) window }
+        ensures reports { result_report S.Fault.refusal result self.new (K.cells ends.new.low.now) (K.cells ends.new.high.now) ≡ try_report (setting_of K.Kind S.Source setting.now) (open_machine self.old) (with_two (open_one self.old) (ends_of K.Kind ends.old)) window }
         ensures some { result ≡ Ok true → 1 ≤ self.new.tried }
         ensures same { self.new.batch ≡ self.old.batch }
-        ensures keeps { SameExtents ends.old ends.new }
+        ensures keeps { SameExtents (ends_of K.Kind ends.old) (ends_of K.Kind ends.new) }
+        ensures same_ends { SameEnds ends.old ends.new }
     {
         let words = self.admit(setting, window, ends)?;
         let met = words.lead_both(setting.rule, ends)?;
@@ -68,12 +71,12 @@ impl OpenDraw {
         &self,
         setting: &Setting<'a, K, S>,
         window: u64,
-        ends: &Ends<K>,
+        ends: &EndsMut<K>,
     ) -> Result<Window<'a, S>, Fault<S::Fault>>
-        ensures { answer (words_in S.Source) (fault_refusal S.Fault.refusal) result ≡ words_of_try (setting_of K.Kind S.Source setting.now) (open_machine self.now) (with_two (open_one self.now) ends.now) window }
+        ensures { answer (words_in S.Source) (fault_refusal S.Fault.refusal) result ≡ words_of_try (setting_of K.Kind S.Source setting.now) (open_machine self.now) (with_two (open_one self.now) (ends_of K.Kind ends.now)) window }
     {
         let rule = setting.rule;
-        if !rule.owns(&ends.low) || !rule.owns(&ends.high) {
+        if !rule.owns(ends.low) || !rule.owns(ends.high) {
             return Err(Fault::State(StateFault::Foreign));
         }
         if window < 1 || window > u64::from(self.batch.stretch) {

@@ -5,7 +5,7 @@ ghost use Rattle.coupling.specs.Windows.{draw_place};
 ghost use Rattle.sources.specs.Sources.{has_place};
 
 use crate::draws::OpenDraw;
-use crate::ends::Ends;
+use crate::ends::EndsMut;
 use crate::fault::{Fault, Unfilled};
 use lattice::kind::Kind;
 use sources::source::Source;
@@ -34,6 +34,7 @@ pub(super) struct Window<'a, S: Source> {
 impl<'a, S: Source> Window<'a, S> {
     ghost use Rattle.std.specs.Prelude.{Decides, MatchResult};
     ghost use Rattle.batch.specs.Ends.{SameExtents};
+    ghost use Rattle.batch.specs.Lent.{SameEnds, ends_of};
     ghost use Rattle.batch.specs.Faults.{unfilled_cause};
     ghost use Rattle.batch.specs.Tries.{filled};
     ghost use Rattle.batch.specs.Reads.{words_in};
@@ -65,20 +66,21 @@ impl<'a, S: Source> Window<'a, S> {
     pub(super) fn lead_both<K: Kind>(
         &self,
         rule: &K,
-        ends: &mut Ends<K>,
+        ends: &mut EndsMut<K>,
     ) -> Result<bool, Fault<S::Fault>>
-        requires own_low { agree (K.extent rule.now) ends.old.low_extent ≡ true }
-        requires own_high { agree (K.extent rule.now) ends.old.high_extent ≡ true }
-        ensures decides { MatchResult result (λ met. Decides met (ends.new.low ≡ ends.new.high)) (λ _. ⊥) }
-        ensures leads_low { ends.new.low ≡ lead (K.meaning rule.now) (words_in S.Source self.now) (K.meaning rule.now).bottom }
-        ensures leads_high { ends.new.high ≡ lead (K.meaning rule.now) (words_in S.Source self.now) (K.meaning rule.now).top }
-        ensures keeps { SameExtents ends.old ends.new }
+        requires own_low { agree (K.extent rule.now) (K.carried ends.old.low.now) ≡ true }
+        requires own_high { agree (K.extent rule.now) (K.carried ends.old.high.now) ≡ true }
+        ensures decides { MatchResult result (λ met. Decides met (K.cells ends.new.low.now ≡ K.cells ends.new.high.now)) (λ _. ⊥) }
+        ensures leads_low { K.cells ends.new.low.now ≡ lead (K.meaning rule.now) (words_in S.Source self.now) (K.meaning rule.now).bottom }
+        ensures leads_high { K.cells ends.new.high.now ≡ lead (K.meaning rule.now) (words_in S.Source self.now) (K.meaning rule.now).top }
+        ensures keeps { SameExtents (ends_of K.Kind ends.old) (ends_of K.Kind ends.new) }
+        ensures same_ends { SameEnds ends.old ends.new }
     {
-        rule.set_bottom(&mut ends.low)?;
-        self.lead(rule, &mut ends.low)?;
-        rule.set_top(&mut ends.high)?;
-        self.lead(rule, &mut ends.high)?;
-        Ok(rule.equal(&ends.low, &ends.high)?)
+        rule.set_bottom(ends.low)?;
+        self.lead(rule, ends.low)?;
+        rule.set_top(ends.high)?;
+        self.lead(rule, ends.high)?;
+        Ok(rule.equal(ends.low, ends.high)?)
     }
 
     // Leads a state through the words.

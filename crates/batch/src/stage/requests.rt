@@ -1,6 +1,7 @@
 // Carrying out requests.
 ghost use Rattle.std.specs.Prelude.{◌≡◌, ℕ, List, ◌∷◌};
 ghost use Rattle.batch.specs.Ends.{SameExtents};
+ghost use Rattle.batch.specs.Lent.{SameEnds, ends_of};
 ghost use Rattle.batch.specs.Histories.{Event, History, event};
 ghost use Rattle.batch.specs.Machine.{counts, drawn};
 ghost use Rattle.batch.specs.Meanings.{drawn_says, outcome_report, tally_says};
@@ -13,11 +14,12 @@ ghost use Rattle.refusal.specs.Refusals.{Refusal};
 ghost use Rattle.std.specs.Option.{option_map};
 
 use crate::draws::{Tally, Token};
-use crate::ends::Ends;
+use crate::ends::EndsMut;
 use crate::fault::{Fault, Full};
 use crate::outcome::Outcome;
 use crate::setting::Setting;
 use crate::stage::{Drawn, Reply, Request, Stage};
+use coupling::shares_are_equal;
 use lattice::even::Even;
 use lattice::kind::Kind;
 use sources::source::Source;
@@ -50,13 +52,15 @@ impl Stage {
         self,
         request: Request,
         setting: &Setting<K, S>,
-        ends: &mut Ends<K>,
+        ends: &mut EndsMut<K>,
     ) -> (Stage, Reply<S::Fault>)
-        ensures carries { Carries (setting_of K.Kind S.Source setting.now) ends.old (stage_machine self) request (response (said_by S.Fault.refusal result.1) (stage_machine result.0) ends.new.low ends.new.high) }
-        ensures goes_on { (es : List Event) → History (setting_of K.Kind S.Source setting.now) es (stage_machine self) → History (setting_of K.Kind S.Source setting.now) (event request ends.old (response (said_by S.Fault.refusal result.1) (stage_machine result.0) ends.new.low ends.new.high) ∷ es) (stage_machine result.0) }
+        ensures carries { Carries (setting_of K.Kind S.Source setting.now) (ends_of K.Kind ends.old) (stage_machine self) request (response (said_by S.Fault.refusal result.1) (stage_machine result.0) (K.cells ends.new.low.now) (K.cells ends.new.high.now)) }
+        ensures goes_on { (es : List Event) → History (setting_of K.Kind S.Source setting.now) es (stage_machine self) → History (setting_of K.Kind S.Source setting.now) (event request (ends_of K.Kind ends.old) (response (said_by S.Fault.refusal result.1) (stage_machine result.0) (K.cells ends.new.low.now) (K.cells ends.new.high.now)) ∷ es) (stage_machine result.0) }
         ensures holds { HoldsInEveryHistory (setting_of K.Kind S.Source setting.now) }
-        ensures keeps { SameExtents ends.old ends.new }
+        ensures keeps { SameExtents (ends_of K.Kind ends.old) (ends_of K.Kind ends.new) }
+        ensures same_ends { SameEnds ends.old ends.new }
     {
+        setting.source.sound();
         self.step(request, setting, ends)
     }
 
@@ -65,14 +69,16 @@ impl Stage {
         self,
         request: Request,
         setting: &Setting<E, S>,
-        ends: &mut Ends<E>,
+        ends: &mut EndsMut<E>,
     ) -> (Stage, Reply<S::Fault>)
-        ensures carries { Carries (setting_of E.Kind S.Source setting.now) ends.old (stage_machine self) request (response (said_by S.Fault.refusal result.1) (stage_machine result.0) ends.new.low ends.new.high) }
-        ensures goes_on { (es : List Event) → History (setting_of E.Kind S.Source setting.now) es (stage_machine self) → History (setting_of E.Kind S.Source setting.now) (event request ends.old (response (said_by S.Fault.refusal result.1) (stage_machine result.0) ends.new.low ends.new.high) ∷ es) (stage_machine result.0) }
+        ensures carries { Carries (setting_of E.Kind S.Source setting.now) (ends_of E.Kind ends.old) (stage_machine self) request (response (said_by S.Fault.refusal result.1) (stage_machine result.0) (E.cells ends.new.low.now) (E.cells ends.new.high.now)) }
+        ensures goes_on { (es : List Event) → History (setting_of E.Kind S.Source setting.now) es (stage_machine self) → History (setting_of E.Kind S.Source setting.now) (event request (ends_of E.Kind ends.old) (response (said_by S.Fault.refusal result.1) (stage_machine result.0) (E.cells ends.new.low.now) (E.cells ends.new.high.now)) ∷ es) (stage_machine result.0) }
         ensures holds { HoldsInEveryHistory (setting_of E.Kind S.Source setting.now) }
         ensures shares { EqualShares (E.meaning setting.now.rule.now) }
-        ensures keeps { SameExtents ends.old ends.new }
+        ensures keeps { SameExtents (ends_of E.Kind ends.old) (ends_of E.Kind ends.new) }
+        ensures same_ends { SameEnds ends.old ends.new }
     {
+        shares_are_equal(setting.rule);
         self.carry_out(request, setting, ends)
     }
 
@@ -81,10 +87,11 @@ impl Stage {
         self,
         request: Request,
         setting: &Setting<K, S>,
-        ends: &mut Ends<K>,
+        ends: &mut EndsMut<K>,
     ) -> (Stage, Reply<S::Fault>)
-        ensures carries { Carries (setting_of K.Kind S.Source setting.now) ends.old (stage_machine self) request (response (said_by S.Fault.refusal result.1) (stage_machine result.0) ends.new.low ends.new.high) }
-        ensures keeps { SameExtents ends.old ends.new }
+        ensures carries { Carries (setting_of K.Kind S.Source setting.now) (ends_of K.Kind ends.old) (stage_machine self) request (response (said_by S.Fault.refusal result.1) (stage_machine result.0) (K.cells ends.new.low.now) (K.cells ends.new.high.now)) }
+        ensures keeps { SameExtents (ends_of K.Kind ends.old) (ends_of K.Kind ends.new) }
+        ensures same_ends { SameEnds ends.old ends.new }
     {
         match (self, request) {
             (Stage::Idle(batch), Request::Open) => match batch.open() {

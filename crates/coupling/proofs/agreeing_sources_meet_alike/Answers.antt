@@ -6,4 +6,4 @@ pub returns : goal.returns
 returns g c =
     let rule = c.args.rule.now in
     let laws = laws_of g.world g.met.K.Kind rule in
-    agreeing_sources (g.K.Kind.meaning rule) laws (g.S.Source.reading c.args.first.now) (g.T.Source.reading c.args.second.now) (g.met.S.Source.sound c.args.first.now) (g.met.T.Source.sound c.args.second.now)
+    agreeing_sources (g.K.Kind.meaning rule) laws (g.S.Source.reading c.args.first.now) (g.T.Source.reading c.args.second.now) c.sound.ensures c.sound-2.ensures

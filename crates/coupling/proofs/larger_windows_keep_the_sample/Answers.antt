@@ -8,5 +8,5 @@ returns g c =
     let laws = laws_of g.world g.met.K.Kind rule in
     record {
       older = older_change_nothing (g.K.Kind.meaning rule) laws;
-      larger = larger_windows (g.K.Kind.meaning rule) laws (g.S.Source.reading c.args.source.now) (g.met.S.Source.sound c.args.source.now);
+      larger = larger_windows (g.K.Kind.meaning rule) laws (g.S.Source.reading c.args.source.now) c.sound.ensures;
     }

@@ -6,4 +6,4 @@ pub returns : goal.returns
 returns g c =
     let rule = c.args.rule.now in
     let laws = laws_of g.world g.met.E.Kind rule in
-    equal_shares (g.E.Kind.meaning rule) laws (g.met.E.Kind.distinct rule) (g.met.E.Even.exchanges rule)
+    equal_shares (g.E.Kind.meaning rule) laws (g.met.E.Kind.distinct rule) c.exchanges.ensures

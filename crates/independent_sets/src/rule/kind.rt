@@ -32,10 +32,14 @@ fn is_white(shape: &Shape, cell: usize) -> bool
 fn is_free(shape: &Shape, cells: &[u8], cell: usize) -> bool
     ensures { result ≡ free (extent_of shape.now) cells.now cell }
 {
-    DIRECTIONS
-        .iter()
-        .filter_map(|shift| shape.beside(cell, *shift))
-        .all(|neighbour| cells.get(neighbour).copied().unwrap_or(0) == 0)
+    for shift in DIRECTIONS {
+        if let Some(neighbour) = shape.beside(cell, shift)
+            && cells.get(neighbour).copied().unwrap_or(0) != 0
+        {
+            return false;
+        }
+    }
+    true
 }
 
 // Whether the next cell after these may hold the value.

@@ -7,4 +7,4 @@ pub returns-clause-holds : goal.returns-clause-holds
 returns-clause-holds g c =
     let rule = c.args.setting.now.rule.now in
     let laws = laws_of g.world g.met.K.Kind rule in
-    holds (setting_of g.K.Kind g.S.Source c.args.setting.now) laws (g.met.S.Source.sound c.args.setting.now.source.now)
+    holds (setting_of g.K.Kind g.S.Source c.args.setting.now) laws c.sound.ensures

@@ -1,27 +1,27 @@
-use Rattle.std.proofs.Common.{◌≡◌, ℕ, List, [], ◌∷◌, ◌++◌, Some, None, Option, get_or, eqb, refl, ap, ◌∙◌, rules, tests}
-use Rattle.std.specs.List.{cons_option, filter_map, flat_map, list_all}
-use Rattle.std.specs.Option.{option_to_list}
-use Rattle.std.proofs.lemmas.Iterator.{YieldsList-from_slice}
-use Rattle.std.proofs.lemmas.Iterator.Consumers.{YieldsList-at, YieldsList-from_filter_map}
-use Rattle.std.proofs.lemmas.Iterator.Search.{all_from_yields_List}
-use Rattle.lattice.specs.Grid.{beside, directions}
+use Rattle.std.proofs.Common.{◌≡◌, ℕ, get_or, sym, arith, rules}
+use Rattle.lattice.proofs.Neighbours.{seen}
+use Rattle.lattice.specs.Kind.{Holds}
 use Rattle.lattice.specs.Shapes.{extent_of}
+use Rattle.independent_sets.specs.Apart.{free_from}
+use Rattle.independent_sets.specs.Beside.{seen_none, seen_some}
 use Rattle.independent_sets.proofs.rule.kind.is_free.Goals as goal
+use Rattle.independent_sets.proofs.rule.kind.is_free.Goals.{in_default-via-in-None-1, in_default-via-in-Some+else-unwrap_or-ne0}
 
--- those of a list that exist
-existing : {X : Type 0} (f : X → Option ℕ) (xs : List X) → filter_map f xs ≡ flat_map (λ x. option_to_list (f x)) xs
-existing f [] = refl
-existing f (x ∷ xs) = front (f x) ∙ ap (λ (ys : List ℕ). option_to_list (f x) ++ ys) (existing f xs)
-  where
-    front : (o : Option ℕ) → cons_option o (filter_map f xs) ≡ option_to_list o ++ filter_map f xs
-    front None = refl
-    front (Some y) = refl
+pub loop-shift-preserved : goal.loop-shift-preserved
+loop-shift-preserved c =
+    let e = extent_of c.args.shape.now in
+    let x = c.args.cells.now in
+    let n = c.loop-shift.shift-index in
+    let few = c.loop-shift-test.true in
+    elim c.in_default.branch [
+      | in_default-via-in-None-1 w ↦ seen_none (λ j. get_or x j 0 ≡ 0) e c.args.cell n few c.loop-shift.invariant (search rules)
+      | in_default-via-in-Some+else-unwrap_or-ne0 w ↦ seen_some (λ j. get_or x j 0 ≡ 0) e c.args.cell n few c.loop-shift.invariant w.in-Some.neighbour (search rules) (search rules)
+    ]
 
 pub returns : goal.returns
 returns c =
     let e = extent_of c.args.shape.now in
-    let cells = c.args.cells.now in
-    all_from_yields_List (λ j. eqb (get_or cells j 0) 0) _ _ c.all.result c.all.ensures.ran
-    (YieldsList-from_filter_map _ (beside e c.args.cell) (YieldsList-at c.filter_map.ensures.source (YieldsList-from_slice directions cc)) c.filter_map.ensures.closure (λ x r q k. search (rules, tests)))
-    (λ x b q k. search (rules, tests))
-    ∙ ap (list_all (λ j. eqb (get_or cells j 0) 0)) (existing (beside e c.args.cell) directions)
+    let x = c.args.cells.now in
+    let all : c.loop-shift.shift-index ≡ 4 = omega (arith, c.loop-shift-test.false, c.loop-shift.auto.shift-index-end) in
+    let empty : (j : ℕ) → Holds (seen e c.args.cell 4) j → get_or x j 0 ≡ 0 = rw all at c.loop-shift.invariant in
+    sym (free_from e x c.args.cell empty)

@@ -14,6 +14,6 @@ chunk_at n (suc k) xs (suc i) d h =
 
 pub returns : goal.returns
 returns c =
-    let few : c.args.place - 1 < length c.args.self.now.bytes.now / 8 = omega arith in
+    let few : c.args.place - 1 < length c.args.self.now.bytes.now / 8 = omega (arith, c.in_ok-unless_among.ensures.bounds) in
     let chunk = ap (λ (ws : List (List ℕ)). get_or ws (c.args.place - 1) []) c.as_chunks.ensures.front ∙ chunk_at 8 _ c.args.self.now.bytes.now (c.args.place - 1) [] few in
     grind (arith, ap big_endian chunk)

@@ -6,7 +6,7 @@ pub loop-place-preserved : goal.loop-place-preserved
 loop-place-preserved g c =
     let p = c.args.self.now.places in
     let n = c.loop-place.place in (
-      moved (g.K.Kind.meaning c.args.rule.now) (g.S.Source.reading p.source.now) p.stretch p.number p.window (n - 1) n _ _ _ _ (omega (arith, c.loop-place-test.true)) c.in_ok-word.ensures c.in_ok-apply.ensures.leaves c.loop-place.invariant.0,
+      moved (g.K.Kind.meaning c.args.rule.now) (g.S.Source.reading p.source.now) p.stretch p.number p.window (n - 1) n _ _ _ _ _ (omega (arith, c.loop-place-test.true)) c.in_ok-word.ensures (omega (arith, c.loop-place-test.true)) c.in_ok-apply.ensures.leaves c.loop-place.invariant.0,
       c.in_ok-apply.ensures.keeps ∙ c.loop-place.invariant.1,
     )
 
