@@ -1,5 +1,7 @@
 // Words that stand for a number or for bytes.
 ghost use Rattle.std.specs.Prelude.{◌≡◌, None, Ok, IfOk, is_some, vec_items};
+ghost use Rattle.std.specs.Char.{is_ascii_hexdigit};
+ghost use Rattle.std.specs.List.{list_all};
 ghost use Rattle.std.specs.Option.{option_map};
 ghost use Rattle.task.specs.Laws.{ReadsHex};
 ghost use Rattle.task.specs.Text.{hex_bytes, hex_pairs, longer, number};
@@ -24,11 +26,35 @@ fn longer(value: u64, byte: u8) -> Option<u64>
     value.checked_mul(10)?.checked_add(u64::from(digit))
 }
 
+// Whether the byte is a hex digit. All three ranges are tested, with no branch: which of them a digit is in cannot be foreseen.
+fn is_hex_digit(byte: u8) -> bool
+    ensures { result ≡ is_ascii_hexdigit byte }
+{
+    (byte.wrapping_sub(b'0') < 10) | (byte.wrapping_sub(b'A') < 6) | (byte.wrapping_sub(b'a') < 6)
+}
+
+// Whether all of these bytes are hex digits. It looks at all, as there are few.
+fn are_hex_digits(bytes: &[u8]) -> bool
+    ensures { result ≡ list_all is_ascii_hexdigit bytes.now }
+{
+    bytes
+        .iter()
+        .fold(true, |whole, byte| whole & is_hex_digit(*byte))
+}
+
+// The same of any number of bytes. They are looked at block by block, up to one that has another byte.
+fn all_hex_digits(bytes: &[u8]) -> bool
+    ensures { result ≡ list_all is_ascii_hexdigit bytes.now }
+{
+    let (blocks, rest) = bytes.as_chunks::<64>();
+    blocks.iter().all(|block| are_hex_digits(block.as_slice())) && are_hex_digits(rest)
+}
+
 // Whether the word is pairs of hex digits.
 fn is_hex(word: &[u8]) -> bool
     ensures { result ≡ is_some (hex_pairs word.now) }
 {
-    word.len() % 2 == 0 && word.iter().all(|byte| byte.is_ascii_hexdigit())
+    word.len() % 2 == 0 && all_hex_digits(word)
 }
 
 // The bytes that a word writes in hex, two digits for each; `-` writes none. Any other

@@ -1,7 +1,4 @@
 use Rattle.std.proofs.Common.{◌≡◌, length, ◌%◌, sym, ◌∙◌, arith, rules}
-use Rattle.std.proofs.lemmas.Iterator.{YieldsList-from_slice}
-use Rattle.std.proofs.lemmas.Iterator.Search.{all_from_yields_List}
-use Rattle.std.specs.Char.{is_ascii_hexdigit}
 use Rattle.task.proofs.Hex.{even_pairs, odd_pairs}
 use Rattle.task.proofs.numerals.is_hex.Goals as goal
 
@@ -9,7 +6,7 @@ pub returns-then-word-eq0 : goal.returns-then-word-eq0
 returns-then-word-eq0 c =
     let w = c.args.word.now in
     let even : length w % 2 ≡ 0 = search rules in
-    all_from_yields_List is_ascii_hexdigit _ _ c.all.result c.all.ensures.ran (YieldsList-from_slice w c.iter.ensures.rest) (λ x b q k. search rules) ∙ sym (even_pairs w even)
+    c.all_hex_digits.ensures ∙ sym (even_pairs w even)
 
 pub returns-else-word-eq0 : goal.returns-else-word-eq0
 returns-else-word-eq0 c =
