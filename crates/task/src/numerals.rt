@@ -8,7 +8,8 @@ ghost use Rattle.task.specs.Text.{hex_bytes, hex_pairs, longer, number};
 
 use std::alloc::{AllocError, Global};
 
-// The number that a word of digits writes.
+// The number that a word of digits writes. Not inlined: inside its caller the loop took a third more time.
+#[inline(never)]
 pub fn number(word: &[u8]) -> Option<u64>
     ensures { result ≡ number word.now }
 {
@@ -22,8 +23,10 @@ pub fn number(word: &[u8]) -> Option<u64>
 fn longer(value: u64, byte: u8) -> Option<u64>
     ensures { result ≡ longer value byte }
 {
-    let digit = char::from(byte).to_digit(10)?;
-    value.checked_mul(10)?.checked_add(u64::from(digit))
+    if !byte.is_ascii_digit() {
+        return None;
+    }
+    value.checked_mul(10)?.checked_add(u64::from(byte - b'0'))
 }
 
 // Whether the byte is a hex digit. All three ranges are tested, with no branch: which of them a digit is in cannot be foreseen.

@@ -54,6 +54,8 @@ fn trim_start(text: &[u8]) -> &[u8]
     &text[blanks..]
 }
 
+// Not inlined: inside its callers the loop has no register left for the text, and takes half as long again.
+#[inline(never)]
 fn trim_end(text: &[u8]) -> &[u8]
     ensures { result.now ≡ reverse (past blank (reverse text.now)) }
 {

@@ -15,7 +15,7 @@ use crate::state::SpinGrid;
 use lattice::fault::StateFault;
 use lattice::grid::Grid;
 use lattice::kind::Kind;
-use lattice::shape::Shape;
+use lattice::shape::{DIRECTIONS, Shape};
 use lattice::words::split;
 use std::alloc::{AllocError, Global};
 
@@ -75,8 +75,8 @@ impl Spins {
         ensures { result ≡ threshold_index (spins_extent self.now) (spin_cells state.now) site }
     {
         let mut index = 4;
-        for neighbour in self.shape.neighbours(site) {
-            match neighbour {
+        for shift in DIRECTIONS {
+            match self.shape.beside(site, shift) {
                 Some(cell) if state.is_up(cell) => index += 1,
                 Some(_) => index -= 1,
                 None => {}
